@@ -1,0 +1,4 @@
+-- The laws of the check.
+pub mod Walk
+pub mod Bytes
+pub mod Parts
