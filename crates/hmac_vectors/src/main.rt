@@ -5,9 +5,6 @@ ghost use Prim.Native.Nat.{_≤_};
 ghost use lib.ListN.{length};
 use hmac::HmacSha1;
 
-// The longest message that is taken in parts: the inner hash is of a block more, of 260 bytes.
-const PARTED: usize = 196;
-
 fn in_two(key: &[u8], m: &[u8], c: usize) -> [u8; 20]
     requires { ⌜ c ≤ length (now m) ⌝ }
 {
@@ -74,7 +71,7 @@ fn print_parts(key: &[u8], m: &[u8]) {
 // The lines of one message.
 fn print_message(key: &[u8], m: &[u8]) {
     vectors::print_whole(m.len(), &hmac::digest(key, m));
-    if key.len() == 20 && m.len() <= PARTED {
+    if key.len() == 20 {
         print_parts(key, m);
     }
 }
