@@ -4,5 +4,4 @@ pub mod Fill
 pub mod Ending
 pub mod Update
 pub mod Bits
-pub mod Elements
 pub mod Hmac

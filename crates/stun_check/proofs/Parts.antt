@@ -14,7 +14,7 @@ use Rattle.digest.specs.Running.{Running, fresh, fed, run, finished}
 use Rattle.digest.specs.Hmac.{Keyed, hmac, keyed, keyed-fed, keyed-finished}
 use Rattle.digest.proofs.Parts.{fed-run, finished-run}
 use Rattle.digest.proofs.Hmac.{keyed-append, keyed-parts}
-use Rattle.digest.proofs.Elements.{take-elements}
+use Rattle.lists.proofs.Elements.{take-elements}
 use Rattle.sha1.specs.Rfc3174.{sha1}
 use Rattle.md5.specs.Rfc1321.{md5}
 use Rattle.stun_check.specs.Source.{integrity-at, covered, same, verified, long-term}

@@ -4,7 +4,7 @@ use mathlib.Core.List.{flatMap}
 use borrow.Author.Needs.{needs}
 use lib.ListN.{length}
 use Rattle.digest.specs.Digest.{result}
-use Rattle.digest.proofs.Elements.{all-elements}
+use Rattle.lists.proofs.Elements.{all-elements}
 use Rattle.md5.specs.Rfc1321.{md5}
 use Rattle.md5.proofs.output.Statement.{statement}
 use Rattle.md5.proofs.output.Tie as tie

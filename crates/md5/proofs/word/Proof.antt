@@ -2,7 +2,7 @@
 use mathlib.Core.Path.{_∙_, sym, ap}
 use borrow.Author.Needs.{needs}
 use Rattle.digest.specs.Bytes.{little, number}
-use Rattle.digest.proofs.Elements.{take-four}
+use Rattle.lists.proofs.Elements.{take-four}
 use Rattle.md5.proofs.word.Statement.{statement}
 use Rattle.md5.proofs.word.Tie as tie
 

@@ -5,7 +5,7 @@ use Prim.Native.Nat.{ℕ}
 use lib.ListN.{length, getD}
 use Rattle.digest.specs.Bytes.{bytes, big}
 use Rattle.digest.specs.Digest.{result}
-use Rattle.digest.proofs.Elements.{elements, all-elements}
+use Rattle.lists.proofs.Elements.{elements, all-elements}
 use Rattle.sha1.specs.Rfc3174.{sha1}
 use Rattle.sha1.proofs.result.Statement.{statement}
 use Rattle.sha1.proofs.result.Tie as tie

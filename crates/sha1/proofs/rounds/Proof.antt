@@ -4,7 +4,7 @@ use Prim.Native.Nat.{ℕ, _-_}
 use native.Mathlib.Omega.{arith}
 use borrow.Author.Needs.{needs}
 use lib.ListN.{length}
-use Rattle.digest.proofs.Elements.{all-elements}
+use Rattle.lists.proofs.Elements.{all-elements}
 use Rattle.sha1.specs.Rfc3174.{rounds, state}
 use Rattle.sha1.specs.View.{listed}
 use Rattle.sha1.proofs.Turn.{Turned, turned-start, turned-next}

@@ -1,7 +1,7 @@
 use borrow.Author.Needs.{needs}
 use mathlib.Core.Path.{ap, sym, _∙_}
 use Rattle.digest.specs.Bytes.{number, big}
-use Rattle.digest.proofs.Elements.{take-four}
+use Rattle.lists.proofs.Elements.{take-four}
 use Rattle.sha1.proofs.word.Statement.{statement}
 use Rattle.sha1.proofs.word.Tie as tie
 

@@ -17,7 +17,7 @@ take-elements l k zero h = refl
 take-elements l k (suc n) h =
     rw (drop-cons l k 0 (omega arith)) (ap {B = List ℕ} (λ r. getD l k 0 ∷ r) (take-elements l (suc k) n (omega arith)))
 
-drop-elements : (l : List ℕ) (k n : ℕ) → length l ≡ k + n → drop k l ≡ elements l k n
+pub drop-elements : (l : List ℕ) (k n : ℕ) → length l ≡ k + n → drop k l ≡ elements l k n
 drop-elements l k zero h = drop-of-length-le l {i = k} (omega arith)
 drop-elements l k (suc n) h =
     drop-cons l k 0 (omega arith) ∙ ap {B = List ℕ} (λ r. getD l k 0 ∷ r) (drop-elements l (suc k) n (omega arith))

@@ -1,0 +1,2 @@
+-- Laws on lists that several crates cite.
+pub mod Elements

@@ -1,0 +1,3 @@
+-- What the source does (Source) and what the RFC says (Rfc), apart; proofs/ joins them.
+pub mod Source
+pub mod Rfc
