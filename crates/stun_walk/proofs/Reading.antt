@@ -34,17 +34,17 @@ field-behind pre rest x =
 
 -- one attribute at the place where pre ends
 module _ (b pre after : List ℕ) (a : Part) (more : List Part) (formed : Formed a) (is : b ≡ pre ++ (body (a ∷ more) ++ after)) where
-  abbrev value : List ℕ
+  abbrev pub value : List ℕ
   value = a .value
 
   -- what stands before the next one
-  abbrev past : List ℕ
+  abbrev pub past : List ℕ
   past = pre ++ (two (a .typ) ++ (two (length value) ++ (value ++ a .pad)))
 
-  typ-at : field-at b (length pre) ≡ a .typ
+  pub typ-at : field-at b (length pre) ≡ a .typ
   typ-at = rw is (field-behind pre _ (a .typ))
 
-  len-at : field-at b (length pre + 2) ≡ length value
+  pub len-at : field-at b (length pre + 2) ≡ length value
   len-at =
       let l : length pre + 2 ≡ length (pre ++ two (a .typ)) = simp length-append (omega arith) in
       let s : b ≡ (pre ++ two (a .typ)) ++ (two (length value) ++ ((value ++ (a .pad ++ body more)) ++ after)) = is ∙ sym (append-assoc pre (two (a .typ)) _) in
@@ -57,10 +57,10 @@ module _ (b pre after : List ℕ) (a : Part) (more : List Part) (formed : Formed
       let s : b ≡ head ++ (value ++ ((a .pad ++ body more) ++ after)) = is ∙ simp append-assoc in
       rw (s, drop-at head (value ++ ((a .pad ++ body more) ++ after)) (length pre + 4) l) (take-at value _ (length value) refl)
 
-  length-past : length past ≡ length pre + 4 + padded (length value)
+  pub length-past : length past ≡ length pre + 4 + padded (length value)
   length-past = simp length-append (omega arith)
 
-  past-is : b ≡ past ++ (body more ++ after)
+  pub past-is : b ≡ past ++ (body more ++ after)
   past-is = is ∙ simp append-assoc
 
 -- the walk over the attributes of the RFC, with n attributes enough

@@ -1,0 +1,4 @@
+-- What the codec's parts say together.
+pub mod Trip
+pub mod Check
+pub mod Cases
