@@ -8,6 +8,7 @@ ghost use lib.Seq.{paste};
 ghost use Rattle.stun_frame.specs.Source.{from-be, class, is-stun, is-channel-data, decode-channel-data, Wrote, whole, stream-frame-len};
 
 pub mod classes;
+pub mod names;
 
 use classes::Class;
 

@@ -9,6 +9,8 @@ ghost use Rattle.stun_frame.specs.Source.{field-at};
 ghost use Rattle.stun_walk.specs.Source.{decoded, get-of, error-code-of, lifetime-of, xor-addr-of, get-str-of, padded as «padded-of»};
 ghost use Rattle.stun_walk.specs.Scan.{kept, scanned};
 use stun_address::Peer;
+use stun_frame::names::ATTR_ERROR_CODE;
+use stun_frame::names::ATTR_LIFETIME;
 use stun_text::Replaced;
 
 // The attribute's value: `len` bytes from `start` on.
@@ -78,7 +80,7 @@ pub fn decode(buf: &[u8]) -> Decoded
 pub fn error_code(buf: &[u8]) -> Code
     ensures { λ r. ⌜ r ≡ error-code-of (now (buf .entry)) ⌝ }
 {
-    match get(buf, 0x0009) {
+    match get(buf, ATTR_ERROR_CODE) {
         Found::Nothing => Code::NoCode,
         Found::At { start, len } => {
             if len < 4 {
@@ -93,7 +95,7 @@ pub fn error_code(buf: &[u8]) -> Code
 pub fn lifetime(buf: &[u8]) -> Granted
     ensures { λ r. ⌜ r ≡ lifetime-of (now (buf .entry)) ⌝ }
 {
-    match get(buf, 0x000D) {
+    match get(buf, ATTR_LIFETIME) {
         Found::Nothing => Granted::NoLifetime,
         Found::At { start, len } => {
             if len < 4 {

@@ -7,10 +7,8 @@ ghost use lib.ListN.{length, take, drop};
 ghost use lib.Seq.{paste};
 ghost use Rattle.stun_write.specs.Source.{push-attr as «attr-bytes», attr-size, header, set-length as «length-set», key-of, with-integrity, with-fingerprint, integrity-size, fingerprint-size, Pushed, Sealed, Encoded};
 use stun_frame::Written;
-
-const MESSAGE_INTEGRITY: u16 = 0x0008;
-
-const FINGERPRINT: u16 = 0x8028;
+use stun_frame::names::ATTR_FINGERPRINT;
+use stun_frame::names::ATTR_MESSAGE_INTEGRITY;
 
 // An attribute at the place `at`: type, length, value, zeros to a multiple of four. The answer is the place after it.
 pub fn push_attr(out: &mut [u8], at: usize, typ: u16, value: &[u8]) -> Written
@@ -177,7 +175,7 @@ fn sign(out: &mut [u8], at: usize, key: &[u8], signed: bool) -> usize
     if signed {
         set_length(out, at - 20 + 24);
         let mac = hmac::digest(key, &out[0..at]);
-        attr(out, at, MESSAGE_INTEGRITY, &mac);
+        attr(out, at, ATTR_MESSAGE_INTEGRITY, &mac);
         return at + 24;
     }
     at
@@ -191,7 +189,7 @@ fn mark(out: &mut [u8], at: usize, fingerprint: bool) -> usize
     if fingerprint {
         set_length(out, at - 20 + 8);
         let crc = digest::word_bytes(crc32::digest(&out[0..at]) ^ 0x5354_554E, true);
-        attr(out, at, FINGERPRINT, &crc);
+        attr(out, at, ATTR_FINGERPRINT, &crc);
         return at + 8;
     }
     at
