@@ -75,6 +75,10 @@ not-long k e = let z : _≡_ {A = ℕ} 0 1 = cc in omega arith
 not-narrow : (k : ℕ) → Bytes k ≡ NoRoom → ⊥
 not-narrow k e = let z : _≡_ {A = ℕ} 0 1 = cc in omega arith
 
+-- the contract's two equations
+pub equations : {n : ℕ} {b out after : List ℕ} {a : Written} → Wrote n b out a after → (a ≡ written n b out) × (after ≡ room-after a (encode-channel-data n b) out)
+equations {n} {b} {out} w = (w .answered, w .left ∙ ap (λ (d : Written). room-after d (encode-channel-data n b) out) (sym (w .answered)))
+
 -- an answer `Bytes`: all of the message stands in front, and its length fits
 pub was-written : {n k : ℕ} {b out after : List ℕ} → Wrote n b out (Bytes k) after
     → (length b ≤ 65535) × (k ≡ length (encode-channel-data n b)) × (after ≡ encode-channel-data n b ++ drop k out)

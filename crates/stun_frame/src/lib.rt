@@ -5,7 +5,7 @@ ghost use mathlib.Core.Path.{_≡_};
 ghost use Prim.Native.Nat.{_+_, _≤_};
 ghost use lib.ListN.{length};
 ghost use lib.Seq.{paste};
-ghost use Rattle.stun_frame.specs.Source.{from-be, class, is-stun, is-channel-data, decode-channel-data, Wrote, whole, stream-frame-len};
+ghost use Rattle.stun_frame.specs.Source.{from-be, class, is-stun, is-channel-data, decode-channel-data, encode-channel-data, written, room-after, whole, stream-frame-len};
 
 pub mod classes;
 pub mod names;
@@ -139,7 +139,8 @@ fn put(out: &mut [u8], at: usize, part: &[u8])
 
 // Number, length, data and zeros to a multiple of four, at the front of `out`.
 pub fn encode_channel_data(channel: u16, data: &[u8], out: &mut [u8]) -> Written
-    ensures { λ r. ⌜ Wrote channel (now («data» .entry)) (now (out .entry)) r (now (out .exit)) ⌝ }
+    ensures { λ r. ⌜ (r ≡ written channel (now («data» .entry)) (now (out .entry)))
+        × (now (out .exit) ≡ room-after r (encode-channel-data channel (now («data» .entry))) (now (out .entry))) ⌝ }
 {
     let n = data.len();
     if 65535 < n {

@@ -36,6 +36,13 @@ unfolding fitted-attr
 attr-long v size room h = rw (lt-ltb 65535 (length v) h)
 
 -- one answer for each of the three that can be due
+-- a contract's two equations, and `Left`
+pub equations : {due a : Written} {m out after : List ℕ} → Left due m out a after → (a ≡ due) × (after ≡ room-after a m out)
+equations {due} {a} {m} {out} l = (l .answered, l .left ∙ ap (λ (d : Written). room-after d m out) (sym (l .answered)))
+
+pub from-equations : {due a : Written} {m out after : List ℕ} → (a ≡ due) × (after ≡ room-after a m out) → Left due m out a after
+from-equations {due} {a} {m} {out} e = record { answered = e .0; left = e .1 ∙ ap (λ (d : Written). room-after d m out) (e .0) }
+
 left-long : {due : Written} (m out : List ℕ) → due ≡ TooLong → Left due m out TooLong out
 left-long m out e = record { answered = sym e; left = rw e }
 

@@ -5,14 +5,16 @@ ghost use mathlib.Core.List.{_++_};
 ghost use Prim.Native.Nat.{_+_, _-_, _≤_, _<_};
 ghost use lib.ListN.{length, take, drop};
 ghost use lib.Seq.{paste};
-ghost use Rattle.stun_write.specs.Source.{push-attr as «attr-bytes», attr-size, header, set-length as «length-set», key-of, with-integrity, with-fingerprint, integrity-size, fingerprint-size, Pushed, Sealed, Encoded};
+ghost use Rattle.stun_frame.specs.Source.{room-after};
+ghost use Rattle.stun_write.specs.Source.{push-attr as «attr-bytes», attr-size, header, set-length as «length-set», key-of, with-integrity, with-fingerprint, integrity-size, fingerprint-size, encoded, sealed-size, fitted, fitted-attr};
 use stun_frame::Written;
 use stun_frame::names::ATTR_FINGERPRINT;
 use stun_frame::names::ATTR_MESSAGE_INTEGRITY;
 
 // An attribute at the place `at`: type, length, value, zeros to a multiple of four. The answer is the place after it.
 pub fn push_attr(out: &mut [u8], at: usize, typ: u16, value: &[u8]) -> Written
-    ensures { λ r. ⌜ Pushed (now (out .entry)) at typ (now (value .entry)) r (now (out .exit)) ⌝ }
+    ensures { λ r. ⌜ (r ≡ fitted-attr (now (value .entry)) (at + attr-size (length (now (value .entry)))) (length (now (out .entry))))
+        × (now (out .exit) ≡ room-after r (take at (now (out .entry)) ++ «attr-bytes» typ (now (value .entry))) (now (out .entry))) ⌝ }
 {
     let n = value.len();
     if 65535 < n {
@@ -42,7 +44,8 @@ pub fn seal(
     signed: bool,
     fingerprint: bool,
 ) -> Written
-    ensures { λ r. ⌜ Sealed (now (out .entry)) end typ id (now (key .entry)) signed fingerprint r (now (out .exit)) ⌝ }
+    ensures { λ r. ⌜ (r ≡ fitted (sealed-size (end - 20) signed fingerprint) (length (now (out .entry))))
+        × (now (out .exit) ≡ room-after r (encoded typ id (take (end - 20) (drop 20 (now (out .entry)))) (key-of signed (now (key .entry))) fingerprint) (now (out .entry))) ⌝ }
 {
     let at = after_header(end);
     let more = added(signed, fingerprint);
@@ -69,7 +72,8 @@ pub fn encode(
     signed: bool,
     fingerprint: bool,
 ) -> Written
-    ensures { λ r. ⌜ Encoded (now (out .entry)) typ id (now (body .entry)) (now (key .entry)) signed fingerprint r (now (out .exit)) ⌝ }
+    ensures { λ r. ⌜ (r ≡ fitted (sealed-size (length (now (body .entry))) signed fingerprint) (length (now (out .entry))))
+        × (now (out .exit) ≡ room-after r (encoded typ id (now (body .entry)) (key-of signed (now (key .entry))) fingerprint) (now (out .entry))) ⌝ }
 {
     let n = body.len();
     let more = added(signed, fingerprint);
