@@ -4,3 +4,4 @@ pub mod Check
 pub mod Lookups
 pub mod Lent
 pub mod Cases
+pub mod Published
