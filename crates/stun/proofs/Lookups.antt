@@ -1,7 +1,8 @@
--- Addresses and texts of a message that is read as RFC 8489 has it (`Reads`): the first attribute of the type that is asked for, by
--- its meaning (`address-reads`, `text-reads`). Codes and lifetimes are `stun_walk`'s.
+-- Addresses, texts, codes and lifetimes of a message that is read as RFC 8489 has it (`Reads`): the first attribute of the type that
+-- is asked for, by its meaning (`address-reads`, `text-reads`, `error-reads`, `seconds-read`).
 use mathlib.Core.Path.{_≡_, refl, sym, ap, ap₂, _∙_}
-use Prim.Native.Nat.{ℕ, _<_}
+use Prim.Native.Nat.{ℕ, _+_, _*_, _/_, _%_, _^_, _≤_, _<_}
+use native.Mathlib.Omega.{arith}
 use mathlib.Core.List.{List, [], _++_}
 use mathlib.Core.Bool.{Bool, true, false}
 use lib.ListN.{length, take, drop}
@@ -14,13 +15,16 @@ use Rattle.stun_address.proofs.Network.{Bytes}
 use Rattle.stun_address.proofs.Values.{value-read}
 use Rattle.stun_frame.specs.Source.{field-at}
 use Rattle.stun_text.specs.Lossy.{lossy-of}
+use Rattle.stun_walk.specs.declared.Code.the-variants.{Error}
+use Rattle.stun_walk.specs.declared.Granted.the-variants.{Seconds}
 use Rattle.stun_walk.specs.declared.Str.{Str}
 use Rattle.stun_walk.specs.declared.Decoded.{Decoded}
 use Rattle.stun_walk.specs.declared.Found.{Found}
 use Rattle.stun_walk.specs.declared.Found.the-variants.{At as There, Nothing}
 use Rattle.stun_walk.specs.Rfc.{Part, Maybe, just, nothing, value-of}
-use Rattle.stun_walk.specs.Source.{get-of, address-in, xor-addr-of, text-in, get-str-of, decoded, readable}
-use Rattle.stun_walk.proofs.Message.{Reads, looked}
+use Rattle.stun_walk.specs.Source.{get-of, address-in, xor-addr-of, text-in, get-str-of, decoded, readable, error-code-of, lifetime-of}
+use Rattle.stun_walk.proofs.Message.{Reads, looked, code-reads, lifetime-reads}
+use Rattle.stun.specs.Rfc.{error-value, ErrorCode, lifetime-value}
 
 -- what is said of a value that may not be there
 abbrev meant-address : List ℕ → Maybe → Peer
@@ -57,3 +61,17 @@ module _ (b : List ℕ) (typ : ℕ) (id : List ℕ) (parts : List Part) (r : Rea
   pub text-reads : (t : ℕ) (v : List ℕ) → value-of t parts ≡ just v → get-str-of b t ≡ record { found = true; read = lossy-of v }
   unfolding get-str-of
   text-reads t v e = text-by b (get-of b t) ∙ ap meant-text (r .lookup t ∙ e)
+
+  -- section 14.8: class and number are the code, whatever the reserved bits and the reason
+  pub error-reads : (first second five code : ℕ) (reason : List ℕ) → ErrorCode code → value-of 0x0009 parts ≡ just (error-value first second five code reason)
+      → error-code-of b ≡ Error code
+  error-reads first second five code reason h e =
+      let v : List ℕ = error-value first second five code reason in
+      let n : (five * 8 + code / 100) % 8 * 100 + code % 100 ≡ code = omega (arith, h) in
+      code-reads b v (r .lookup 0x0009 ∙ e) (omega arith) ∙ ap Error n
+
+  -- RFC 8656 section 18.2
+  pub seconds-read : (seconds : ℕ) → seconds < 2 ^ 32 → value-of 0x000D parts ≡ just (lifetime-value seconds) → lifetime-of b ≡ Seconds seconds
+  seconds-read seconds h e =
+      let n : field-at (lifetime-value seconds) 0 * 65536 + field-at (lifetime-value seconds) 2 ≡ seconds = omega arith in
+      lifetime-reads b (lifetime-value seconds) (r .lookup 0x000D ∙ e) (omega arith) ∙ ap Seconds n

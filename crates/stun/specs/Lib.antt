@@ -1,0 +1,2 @@
+-- What the codec's parts are shown to mean together.
+pub mod Rfc
