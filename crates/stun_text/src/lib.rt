@@ -10,6 +10,7 @@ ghost use Rattle.stun_text.specs.Lossy.{lossy-of, no-room};
 ghost use Rattle.stun_text.specs.Following.{following, Leads};
 
 // The first `len` bytes; the room after them is zero.
+#[repr(C)]
 pub struct Text {
     pub bytes: [u8; 763],
     pub len: usize,

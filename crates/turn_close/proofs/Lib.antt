@@ -1,0 +1,2 @@
+-- The answers of a close, number by number (Closing).
+pub mod Closing

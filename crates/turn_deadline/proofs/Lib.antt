@@ -1,0 +1,2 @@
+-- The laws of the scan.
+pub mod Scan

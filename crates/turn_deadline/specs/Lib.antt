@@ -1,0 +1,2 @@
+-- A deadline as the code has it.
+pub mod Times

@@ -1,0 +1,2 @@
+-- What rows of requests are as packets, and how long they are.
+pub mod Frames

@@ -1,0 +1,3 @@
+-- The laws of lent ids: what others cite is in Lent.
+pub mod Lent
+pub mod Clashing

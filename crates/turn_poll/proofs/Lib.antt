@@ -1,0 +1,5 @@
+-- Requests come into their table as in the definition (Coming); what is written are its packets (Packets); the number is its number and
+-- the answer its answer (Deciding).
+pub mod Coming
+pub mod Packets
+pub mod Deciding

@@ -1,0 +1,30 @@
+-- What a draft comes to: the answer of any run of the definition that the draft's plan stands for.
+use mathlib.Core.Path.{_≡_}
+use mathlib.Core.List.{List, [], _∷_}
+use Prim.Native.Nat.{ℕ, _≤_}
+use lib.ListN.{length}
+use Rattle.turn_state.specs.declared.Kind.the-variants.{Allocate}
+use Rattle.turn_state.specs.declared.Client.{Client}
+use Rattle.turn_state.specs.declared.Answer.{Answer}
+use Rattle.turn_state.specs.State.{Run}
+use Rattle.turn_state.specs.Number.{Given, number, settled}
+use Rattle.turn_state.specs.View.{view, Tidy, Meets}
+use Rattle.turn_plan.specs.declared.Draft.{Draft}
+use Rattle.turn_plan.specs.Plan.{entry, asking}
+use Rattle.turn_plan.specs.Draft.{plan-in, TidyDraft}
+use Rattle.turn_plan.specs.Follows.{Follows}
+
+abbrev pub given-of : ℕ → List ℕ → ℕ → Given
+given-of now lent room = record { time = now; data-len = 0; ids = lent; room = room }
+
+abbrev pub Concludes : Client → Draft → ℕ → List ℕ → List ℕ → Answer → List ℕ → Type 0
+Concludes client d now lent out r after =
+    (s : Run) → (Tidy client → TidyDraft d) → Follows (view client) now lent (plan-in d) s
+    → Meets client (settled (number (given-of now lent (length out)) (view client) s) (view client) s) out r after
+
+-- the draft of a start
+pub record Allocates (client : Client) (r : Draft) : Type 0 where
+  pub means : plan-in r ≡ asking Allocate (entry (view client))
+  pub tidy : Tidy client → TidyDraft r
+  pub few-sends : r .sends .len ≤ 64
+  pub few-asks : r .asks .len ≤ 65
