@@ -1,5 +1,6 @@
 -- Requests come into their table as in the definition (Coming); what is written are its packets (Packets); the number is its number and
--- the answer its answer (Deciding).
+-- the answer its answer (Deciding); before the deadline there is nothing to do (Idle).
 pub mod Coming
 pub mod Packets
 pub mod Deciding
+pub mod Idle

@@ -1,12 +1,15 @@
 // `start` and `poll` of turn.rs: what is to be sent is planned first, then it is decided, and only then is anything written.
 ghost use mathlib.Core.Path.{_≡_};
-ghost use mathlib.Core.Bool.{false, cond};
+ghost use mathlib.Core.Bool.{false, cond, not};
 ghost use Prim.Native.Nat.{_+_, _≤_, min};
 ghost use lib.ListN.{length, replicate};
 ghost use Rattle.turn_state.specs.Sequence.{outcome, Start, Poll};
+ghost use Rattle.turn_state.specs.Source.{is-due, next-deadline};
 ghost use Rattle.turn_state.specs.View.{view, told, Meets};
 ghost use Rattle.turn_poll.specs.Taking.{Took, TookAll};
 ghost use Rattle.turn_poll.specs.Concluding.{Concludes, Allocates};
+use turn_deadline::Deadline;
+use turn_deadline::next_deadline;
 use turn_frames::asks_size;
 use turn_frames::sends_size;
 use turn_frames::write_asks;
@@ -225,6 +228,9 @@ pub fn poll(client: Client, now: u64, ids: &[u8], out: &mut [u8]) -> Answer
     if 9007199254740991 < now {
         return refused(client, 1);
     }
+    if is_early(client, now) {
+        return refused(client, 0);
+    }
     let requests = client.requests;
     let permissions = client.permissions;
     let channels = client.channels;
@@ -243,6 +249,16 @@ pub fn poll(client: Client, now: u64, ids: &[u8], out: &mut [u8]) -> Answer
         client.closing,
     );
     conclude(client, d, now, ids, out)
+}
+
+// Is nothing due yet? Then the client is handed back as it is.
+fn is_early(client: Client, now: u64) -> bool
+    ensures { λ r. ⌜ r ≡ not (is-due now (next-deadline (view client))) ⌝ }
+{
+    match next_deadline(client) {
+        Deadline::At(t) => now < t,
+        Deadline::Never => true,
+    }
 }
 
 // The draft that asks for an allocation and changes nothing else.
