@@ -19,7 +19,7 @@ use Rattle.turn_state.specs.declared.Kind.the-variants.{Refresh}
 use Rattle.turn_state.specs.declared.Event.the-variants.{Nothing}
 use Rattle.turn_state.specs.State.{Turn, Run, begin, ids-in, id-at, set-txns, set-closing}
 use Rattle.turn_state.specs.Source.{close, encode, refresh-message}
-use Rattle.turn_state.specs.Number.{Given, number, settled, first, clash, framed, pending}
+use Rattle.turn_state.specs.Number.{Given, given-of, number, settled, above, full, framed, pending}
 use Rattle.turn_state.specs.View.{view, asked-of, kind-in, txns-in, held, Tidy, refused-answer, Meets, no-request, TidyRequest, TidyTable}
 use Rattle.turn_state.proofs.Answering.{refused-meets, accepted-meets}
 use Rattle.turn_open.specs.Fresh.{blank-requests}
@@ -30,38 +30,22 @@ use Rattle.turn_packet.proofs.Laws.{packet-encode, packet-length}
 use Rattle.turn_packet.proofs.Bounds.{packet-short}
 use Rattle.turn_packet.proofs.Rooms.{Rooms}
 use Rattle.turn_packet.proofs.Frames.{framed-packet-length}
-use Rattle.turn_ids.specs.Ids.{lent-id, ids-from}
-use Rattle.turn_ids.proofs.Lent.{lent-is, lent-twelve}
-
-abbrev pub given-of : List ℕ → ℕ → Given
-given-of lent room = record { time = 0; data-len = 0; ids = lent; room = room }
+use Rattle.turn_ids.specs.Ids.{lent-id, verdict-of}
+use Rattle.turn_ids.proofs.Lent.{lent-is, id-twelve, id-short}
+use Rattle.turn_ids.proofs.Verdicts.{number-is}
 
 abbrev pub run-of : Client → List ℕ → Run
 run-of client lent = close (begin (view client) lent)
 
--- an id has at most twelve bytes
-id-test : (lent : List ℕ) (b : Bool) → length (cond b (take 12 (drop (12 * 0) lent)) []) ≤ 12
-id-test lent true = rw length-take (omega arith)
-id-test lent false = omega arith
-
-id-short : (lent : List ℕ) → length (id-at lent 0) ≤ 12
-id-short lent = id-test lent (ltb 0 (ids-in lent))
-
--- the one id that it uses
-pub one-used : (client : Client) (lent : List ℕ) (b : Bool) → 1 ≤ ids-in lent → clash (map (λ x. x .msg .tid) (txns-in (client .requests))) (ids-from lent 0 (min 1 (ids-in lent))) ≡ b
-    → clash (pending (view client)) (ids-from lent 0 1) ≡ b
-one-used client lent b h e =
-    let m : min 1 (ids-in lent) ≡ 1 = omega arith in rw m at e
-
 -- what it does where it does nothing
 module _ (client : Client) (lent out : List ℕ) (none-left : run-of client lent ≡ begin (view client) lent) where
-  quiet-number : number (given-of lent (length out)) (view client) (run-of client lent) ≡ 0
+  quiet-number : number (given-of 0 lent (length out)) (view client) (run-of client lent) ≡ 0
   quiet-number =
-      nothing-used (given-of lent (length out)) (view client) (run-of client lent) (omega arith) (omega arith) (ap (λ (r : Run). r .report) none-left) (ap (λ (r : Run). r .out) none-left)
+      nothing-used (given-of 0 lent (length out)) (view client) (run-of client lent) (omega arith) (omega arith) (ap (λ (r : Run). r .report) none-left) (ap (λ (r : Run). r .out) none-left)
 
-  pub quiet : Meets client (settled (number (given-of lent (length out)) (view client) (run-of client lent)) (view client) (run-of client lent)) out (refused-answer client 0) out
+  pub quiet : Meets client (settled (number (given-of 0 lent (length out)) (view client) (run-of client lent)) (view client) (run-of client lent)) out (refused-answer client 0) out
   quiet =
-      accepted-meets client (given-of lent (length out)) (run-of client lent) out (refused-answer client 0) out quiet-number refl (rw none-left) (λ t. t) (rw none-left) (rw none-left) (rw none-left) (rw none-left)
+      accepted-meets client (given-of 0 lent (length out)) (run-of client lent) out (refused-answer client 0) out quiet-number refl (rw none-left) (λ t. t) (rw none-left) (rw none-left) (rw none-left) (rw none-left)
       (rw none-left)
 
 pub no-relay : (client : Client) (lent : List ℕ) → client .«has_relay» ≡ false → run-of client lent ≡ begin (view client) lent
@@ -78,7 +62,7 @@ module _ (client : Client) (lent out : List ℕ) (relayed : client .«has_relay�
   c = view client
 
   abbrev g : Given
-  g = given-of lent (length out)
+  g = given-of 0 lent (length out)
 
   abbrev packet : List ℕ
   packet = packet-of (client .credentials) a (id-at lent 0) (id-at lent 0)
@@ -101,26 +85,18 @@ module _ (client : Client) (lent out : List ℕ) (relayed : client .«has_relay�
   run-is = rw (relayed, open-yet, sym packet-is)
 
   short : length packet ≤ 3100
-  short = packet-short (client .credentials) (rooms .username) (rooms .realm) (rooms .nonce) a (id-at lent 0) (id-at lent 0) (id-short lent)
-
-  number-is : number g c (run-of client lent)
-      ≡ first ((1, false) ∷ (2, false) ∷ (4, false) ∷ (5, false) ∷ (6, ltb (ids-in lent) 1) ∷ (7, clash (pending c) (ids-from lent 0 1)) ∷ (8, ltb (length out) (length (framed (packet ∷ [])))) ∷ [])
-  unfolding number
-  number-is = rw (run-is, le-ltb 65535 (length packet - 20) (omega (arith, short)))
-
-  pub six : ids-in lent < 1 → number g c (run-of client lent) ≡ 6
-  six h = number-is ∙ rw (lt-ltb (ids-in lent) 1 h)
-
-  pub seven : 1 ≤ ids-in lent → clash (pending c) (ids-from lent 0 1) ≡ true → number g c (run-of client lent) ≡ 7
-  seven h k = number-is ∙ rw (le-ltb (ids-in lent) 1 h, k)
+  short = packet-short (client .credentials) (rooms .username) (rooms .realm) (rooms .nonce) a (id-at lent 0) (id-at lent 0) (id-short lent 0)
 
   size-is : 1 ≤ ids-in lent → length (framed (packet ∷ [])) ≡ 3 + packet-size (client .credentials) a
   size-is h =
-      let twelve : length (id-at lent 0) ≡ 12 = ap length (sym (lent-is lent 0 (omega arith))) ∙ lent-twelve lent 0 in
+      let twelve : length (id-at lent 0) ≡ 12 = id-twelve lent 0 (omega arith) in
       framed-packet-length (client .credentials) a (id-at lent 0) (id-at lent 0) rooms twelve twelve
 
-  pub eight : (n : ℕ) → 1 ≤ ids-in lent → clash (pending c) (ids-from lent 0 1) ≡ false → n ≡ packet-size (client .credentials) a → length out < 3 + n → number g c (run-of client lent) ≡ 8
-  eight n h k e small = number-is ∙ rw (le-ltb (ids-in lent) 1 h, k, lt-ltb (length out) (length (framed (packet ∷ []))) (omega (arith, size-is h)))
+  pub decided : (n v : ℕ) → n ≡ packet-size (client .credentials) a → v ≡ verdict-of false (pending c) lent 1 (3 + n) (length out) → number g c (run-of client lent) ≡ v
+  decided n v e h =
+      number-is g c (run-of client lent) false 1 (3 + n) (omega arith) (ap (λ (r : Run). above 763 (r .report .texts)) run-is)
+      (ap (λ (r : Run). above 65535 (r .report .bodies)) run-is ∙ rw (le-ltb 65535 (length packet - 20) (omega (arith, short)))) (ap (λ (r : Run). full (r .report .added)) run-is)
+      (ap (λ (r : Run). r .report .used) run-is) (λ k. ap (λ (r : Run). length (framed (r .out))) run-is ∙ size-is k ∙ rw e) ∙ sym h
 
   abbrev after : Requests → Client
   after t =
@@ -140,7 +116,7 @@ module _ (client : Client) (lent out : List ℕ) (relayed : client .«has_relay�
         reliable = client .reliable;
       }
 
-  pub closed : (n : ℕ) (id : List ℕ) (w : Written) (o : List ℕ) (t : Requests) → 1 ≤ ids-in lent → clash (pending c) (ids-from lent 0 1) ≡ false → n ≡ packet-size (client .credentials) a
+  pub closed : (n : ℕ) (id : List ℕ) (w : Written) (o : List ℕ) (t : Requests) → 1 ≤ ids-in lent → number g c (run-of client lent) ≡ 0 → n ≡ packet-size (client .credentials) a
       → 3 + n ≤ length out → id ≡ lent-id lent 0 → w ≡ cond (leb (0 + 3 + packet-size (client .credentials) a) (length out)) (Bytes (0 + 3 + packet-size (client .credentials) a)) NoRoom
       → o ≡ room-after w (take 0 out ++ framed (packet-of (client .credentials) a id id ∷ [])) out → t ≡ blank-requests
       → Meets client (settled (number g c (run-of client lent)) c (run-of client lent)) out
@@ -148,10 +124,9 @@ module _ (client : Client) (lent out : List ℕ) (relayed : client .«has_relay�
   closed n id w o t h k e room eid ew eo et =
       let same-id : id ≡ id-at lent 0 = eid ∙ lent-is lent 0 (omega arith) in
       let size : length (framed (packet ∷ [])) ≡ 3 + n = size-is h ∙ rw e in
-      let zero-number : number g c (run-of client lent) ≡ 0 = number-is ∙ rw (le-ltb (ids-in lent) 1 h, k, le-ltb (length out) (length (framed (packet ∷ []))) (omega (arith, size))) in
       let w-is : w ≡ Bytes (3 + n) = ew ∙ rw (← e, le-leb (0 + 3 + n) (length out) (omega arith)) in
       accepted-meets client g (run-of client lent) out
-      (record { client = after t; refusal = 0; event = Nothing; events = 0; packets = 1; len = 3 + n }) o zero-number refl
+      (record { client = after t; refusal = 0; event = Nothing; events = 0; packets = 1; len = 3 + n }) o k refl
       (rw (run-is, et))
       (λ n₁. record { password = n₁ .password; credentials = n₁ .credentials; requests = rw et (blank-tidy TidyRequest no-request 64); permissions = n₁ .permissions; channels = n₁ .channels; relay = n₁ .relay; no-refresh = n₁ .no-refresh })
       (rw run-is) (rw run-is) (rw run-is) (rw run-is (sym size))

@@ -3,9 +3,8 @@ ghost use lib.ListN.{length};
 ghost use mathlib.Core.Path.{_≡_};
 ghost use Rattle.turn_state.specs.Sequence.{outcome, Close};
 ghost use Rattle.turn_state.specs.View.{view, Meets, refused-answer};
-use turn_ids::clashes;
-use turn_ids::id_count;
 use turn_ids::id_of;
+use turn_ids::verdict;
 use turn_open::no_requests;
 use turn_packet::packet_size;
 use turn_packet::write_packet;
@@ -25,18 +24,13 @@ pub fn close(client: Client, ids: &[u8], out: &mut [u8]) -> Answer
     if client.closing {
         return idle(client);
     }
-    if id_count(ids) < 1 {
-        return refused(client, 6);
-    }
-    let pending = client.requests;
-    if clashes(pending, ids, 1) {
-        return refused(client, 7);
-    }
     let credentials = client.credentials;
     let asked = asked_of(Kind::Refresh(0));
     let size = 3 + packet_size(credentials, asked);
-    if out.len() < size {
-        return refused(client, 8);
+    let pending = client.requests;
+    let number = verdict(pending, false, 1, ids, size, out.len());
+    if number != 0 {
+        return refused(client, number);
     }
     let id = id_of(ids, 0);
     write_packet(out, 0, credentials, asked, id, id);

@@ -50,3 +50,14 @@ pub copied-all : (id lent : List ℕ) (at i n : ℕ) → length id ≡ n → i �
 copied-all id lent at i n l h k e =
     let m : i ≡ n = omega arith in
     sym (take-all i id (omega arith)) ∙ e ∙ ap (λ (j : ℕ). take j (drop at lent)) m
+
+-- an id that was lent has twelve bytes, and one that was not has none
+pub id-twelve : (lent : List ℕ) (k : ℕ) → k < ids-in lent → length (id-at lent k) ≡ 12
+id-twelve lent k h = ap length (sym (lent-is lent k h)) ∙ lent-twelve lent k
+
+pub id-short : (lent : List ℕ) (k : ℕ) → length (id-at lent k) ≤ 12
+id-short lent k = by-test (ltb k (ids-in lent))
+  where
+    by-test : (b : Bool) → length (cond b (take 12 (drop (12 * k) lent)) []) ≤ 12
+    by-test true = rw length-take (omega arith)
+    by-test false = omega arith

@@ -1,5 +1,5 @@
-// The ids that a caller lends: twelve bytes each, in order; spare bytes are ignored. And refusal 7: a used id equals another used
-// one, or one that is pending at entry.
+// The ids that a caller lends: twelve bytes each, in order; spare bytes are ignored. And the numbers 5 to 8 of a call that uses some:
+// among them 7, a used id equals another used one, or one that is pending at entry.
 ghost use mathlib.Core.Path.{_≡_};
 ghost use mathlib.Core.List.{map};
 ghost use Prim.Native.Nat.{_-_, _≤_, min};
@@ -8,7 +8,7 @@ ghost use Rattle.turn_state.specs.Maps.{contains};
 ghost use Rattle.turn_state.specs.State.{ids-in};
 ghost use Rattle.turn_state.specs.Number.{clash};
 ghost use Rattle.turn_state.specs.View.{txns-in};
-ghost use Rattle.turn_ids.specs.Ids.{lent-id, ids-from};
+ghost use Rattle.turn_ids.specs.Ids.{lent-id, ids-from, request-full, verdict-of};
 use turn_state::Requests;
 use turn_tables::Position;
 use turn_tables::find_request;
@@ -93,4 +93,44 @@ pub fn clashes(t: Requests, ids: &[u8], used: usize) -> bool
         k = next;
     }
     false
+}
+
+// 5, of a request: under the id at k, lent or not, it would meet a full table.
+pub fn meets_full(t: Requests, ids: &[u8], k: usize) -> bool
+    ensures { λ r. ⌜ r ≡ request-full (txns-in t) (now (ids .entry)) k ⌝ }
+{
+    if t.len < 64 {
+        return false;
+    }
+    if id_count(ids) <= k {
+        return true;
+    }
+    let id = id_of(ids, k);
+    !is_pending(t, id)
+}
+
+// The number of a call that met a full table or not, uses the first `used` ids and writes `size` bytes.
+pub fn verdict(
+    pending: Requests,
+    full: bool,
+    used: usize,
+    ids: &[u8],
+    size: usize,
+    room: usize,
+) -> u32
+    ensures { λ r. ⌜ r ≡ verdict-of full (map (λ x. x .msg .tid) (txns-in pending)) (now (ids .entry)) used size room ⌝ }
+{
+    if full {
+        return 5;
+    }
+    if id_count(ids) < used {
+        return 6;
+    }
+    if clashes(pending, ids, used) {
+        return 7;
+    }
+    if room < size {
+        return 8;
+    }
+    0
 }

@@ -36,7 +36,7 @@ unfolding packet-of
 packet-encode client a id under = refl
 
 -- a key that is held, as the code hands it over
-signing-held : (b : Bool) (key : List ℕ) → signing (held b key) ≡ key-of b key
+pub signing-held : (b : Bool) (key : List ℕ) → signing (held b key) ≡ key-of b key
 signing-held false key = refl
 signing-held true key = refl
 

@@ -1,4 +1,5 @@
 -- What the code does to a draft is what the plan's step does to its meaning.
+use Rattle.turn_tables.proofs.Neat.{tidy-row}
 use mathlib.Core.Path.{_≡_, refl, ap, sym, subst, _∙_}
 use mathlib.Core.Bool.{Bool, true, false, cond, _||_}
 use mathlib.Core.List.{List, [], _∷_, _++_, map, map-append, reverse, reverse-append}
@@ -33,8 +34,8 @@ use Rattle.turn_state.specs.View.{kind-in, txn-in, txns-in, perms-in, chans-in,
 use Rattle.turn_tables.specs.declared.Ids.{Ids}
 use Rattle.turn_tables.specs.declared.Hosts.{Hosts}
 use Rattle.turn_tables.specs.declared.Places.{Places}
-use Rattle.turn_tables.specs.Lists.{due-ids, due-hosts, due-places}
-use Rattle.turn_tables.proofs.Dues.{due-ids-shown, due-hosts-shown, due-places-shown}
+use Rattle.turn_tables.specs.Lists.{due-ids, due-hosts, due-places, waiting-places}
+use Rattle.turn_tables.proofs.Dues.{due-ids-shown, due-hosts-shown, due-places-shown, waiting-places-shown}
 use Rattle.turn_tables.specs.declared.Position.{Position}
 use Rattle.turn_tables.specs.declared.Position.the-variants.{At, Nowhere}
 use Rattle.turn_tables.specs.Rows.{position}
@@ -47,8 +48,8 @@ use Rattle.turn_state.specs.declared.Asks.{Asks}
 use Rattle.turn_plan.specs.declared.Draft.{Draft}
 use Rattle.turn_plan.specs.declared.Refreshing.{Refreshing}
 use Rattle.turn_open.specs.Fresh.{blank-requests}
-use Rattle.turn_plan.specs.Plan.{Plan, due-tids, due-ips, due-peers, plan-perms, plan-chans, planned-from, asking, no-refresh, asked-again, renewing, plan-refresh, plan-perm, plan-chan, failed, sent-again, settle-due, with-txns, with-perms, with-chans, plan-due}
-use Rattle.turn_plan.specs.Draft.{inserted, insert-at, id-bytes, plan-in, messages-in, kinds-in, TidyDraft, Drafts, entry-of, Plans, set-requests, set-permissions, set-channels, set-sends, set-asks}
+use Rattle.turn_plan.specs.Plan.{Plan, due-tids, due-ips, due-peers, plan-perms, plan-chans, planned-from, asking, no-refresh, asked-again, renewing, plan-refresh, plan-perm, plan-chan, failed, sent-again, settle-due, with-txns, with-perms, with-chans, plan-due, plan-bind, plan-binds, waiting-peers}
+use Rattle.turn_plan.specs.Draft.{inserted, insert-at, id-bytes, plan-in, messages-in, kinds-in, TidyDraft, Drafts, entry-of, From, Begins, Plans, Binds, set-requests, set-permissions, set-channels, set-sends, set-asks}
 
 -- an allocation that timed out
 pub fail-allocate : (d : Draft) → Drafts (Unit {0}) 1 0 d (failed Allocate (plan-in d))
@@ -140,17 +141,6 @@ again-draft d r now w t sent full full-sends room room-sends twelve wait e s =
       few-asks = omega arith;
       few-timeouts = omega arith;
     }
-
--- a row of a tidy table is tidy
-each-at : {R : Type 0} {tidy : R → Type 0} {l : List R} (i : ℕ) (z : R) → Each tidy l → i < length l → tidy (getD l i z)
-each-at i z no-rows h = absurd (not-suc-le-zero h)
-each-at zero z (row t p) h = t
-each-at (suc i) z (row t p) h = each-at i z p (le-of-suc-le-suc h)
-
-tidy-row : {R : Type 0} {tidy : R → Type 0} (blank : R) (room len : ℕ) (rows : List R) (i : ℕ) (z : R) → length rows ≡ room → i < min len room
-    → TidyTable tidy blank room len rows → tidy (getD rows i z)
-tidy-row blank room len rows i z full h t =
-    rw (← getD-take len rows i z (omega arith)) (each-at i z (t .each) (rw length-take (omega arith)))
 
 -- one due request, found at i
 module _ (d : Draft) (id : List ℕ) (now : ℕ) (reliable : Bool) (i : ℕ) (z : Request) (less : Requests) (full : length (d .requests .rows) ≡ 64)
@@ -399,35 +389,75 @@ draft-renewals d a b m r hosts places now reliable closing e f g eh h ep k =
     went-all d r (each (plan-chan now) (map address-in (take (places .len) (places .rows))) (plan-in m)) (planned-from now reliable closing (plan-in d)) 64 65 64 65
     (rw e (sym (ap (λ (l : List Address). each (plan-chan now) l (plan-in m)) peers ∙ ap (plan-chans now) mid))) (omega arith) (omega arith) whole
 
+-- a channel is to be bound
+pub bind-found : (d r : Draft) (p : Place) (peer : Address) (i : ℕ) (z : Channel) (a : Asked) → length (d .channels .rows) ≡ 32 → peer ≡ address-in p
+    → position (for-peer peer) (chans-in (d .channels)) ≡ At i → a ≡ asked-of (ChannelBind peer (getD (d .channels .rows) i z .number))
+    → Drafts (Unit {0}) 0 1 d (asking (kind-in a) (plan-in d)) r → Drafts (Unit {0}) 0 1 d (plan-bind (address-in p) (plan-in d)) r
+unfolding plan-bind
+bind-found d r p peer i z a full e found k f =
+    let old = getD (d .channels .rows) i z in
+    let there : position (for-peer (address-in p)) (chans-in (d .channels)) ≡ At i = subst (λ (x : Address). position (for-peer x) (chans-in (d .channels)) ≡ At i) e found in
+    let kind : kind-in a ≡ ChannelBind (address-in p) (old .number) =
+    ap kind-in (k ∙ ap (λ (x : Address). asked-of (ChannelBind x (old .number))) e) ∙ ap (λ (x : Address). ChannelBind x (old .number)) (address-back p) in
+    went-all d r (asking (kind-in a) (plan-in d)) (plan-bind (address-in p) (plan-in d)) 0 1 0 1
+    (rw (get-chan (d .channels) full (for-peer (address-in p)) i z there, kind)) (omega arith) (omega arith) f
+
+pub bind-missing : (d : Draft) (p : Place) (peer : Address) → peer ≡ address-in p → position (for-peer peer) (chans-in (d .channels)) ≡ Nowhere
+    → Drafts (Unit {0}) 0 1 d (plan-bind (address-in p) (plan-in d)) d
+unfolding plan-bind
+bind-missing d p peer e missing =
+    let gone = subst (λ (x : Address). position (for-peer x) (chans-in (d .channels)) ≡ Nowhere) e missing in
+    same-draft 0 1 d (plan-bind (address-in p) (plan-in d)) (rw (nowhere-get (for-peer (address-in p)) (chans-in (d .channels)) gone))
+
 -- from a client's parts
-abbrev pub first-draft : Requests → Permissions → Channels → Refreshing → Requests → List Asked → Draft
-first-draft requests permissions channels refresh sends rows =
-    record { requests = requests; permissions = permissions; channels = channels; sends = sends; asks = record { rows = rows; len = 0 }; timeouts = 0; «refresh_at» = refresh .at; «has_refresh» = refresh .held; done = refresh .done }
+module _ (requests : Requests) (permissions : Permissions) (channels : Channels) (refresh : Refreshing) where
+  abbrev at-entry : Plan
+  at-entry = entry-of requests permissions channels refresh
 
-module _ (requests : Requests) (permissions : Permissions) (channels : Channels) (refresh : Refreshing) (sends : Requests) (rows : List Asked) (now : ℕ) (reliable closing : Bool)
-    (blank : sends ≡ blank-requests) where
-  first-means : plan-in (first-draft requests permissions channels refresh sends rows) ≡ entry-of requests permissions channels refresh
-  first-means = rw blank
-
-  pub plans-nothing : 9007199254740991 < now → Plans requests permissions channels refresh now reliable closing (first-draft requests permissions channels refresh sends rows)
-  plans-nothing h =
+  pub begins : (sends : Requests) (rows : List Asked) → sends ≡ blank-requests
+      → Begins requests permissions channels refresh (record { requests = requests; permissions = permissions; channels = channels; sends = sends; asks = record { rows = rows; len = 0 }; timeouts = 0; «refresh_at» = refresh .at; «has_refresh» = refresh .held; done = refresh .done })
+  begins sends rows blank =
       record {
-        means = rw (lt-leb now 9007199254740991 h) first-means;
+        means = rw blank;
         tidy = λ r p c n. record { requests = r; permissions = p; channels = c; no-refresh = n };
         few-sends = rw blank (omega arith);
-        few-asks = omega arith;
         few-timeouts = omega arith;
+        few-asks = omega arith;
       }
 
-  pub plans-all : (r : Draft) → now ≤ 9007199254740991
-      → Drafts (Unit {0}) 64 65 (first-draft requests permissions channels refresh sends rows) (planned-from now reliable closing (plan-in (first-draft requests permissions channels refresh sends rows))) r
-      → Plans requests permissions channels refresh now reliable closing r
-  plans-all r h f =
-      let none-sent : sends .len ≡ 0 = rw blank in
+  -- and what is made of the draft at entry
+  after-entry : (d r : Draft) (due q : Plan) (sent asked : ℕ) → due ≡ q → Begins requests permissions channels refresh d → Drafts (Unit {0}) sent asked d q r
+      → From requests permissions channels refresh due sent asked r
+  after-entry d r due q sent asked e b f =
       record {
-        means = f .means ∙ rw (le-leb now 9007199254740991 h) (ap (planned-from now reliable closing) first-means);
-        tidy = λ x p c n. f .tidy tt (record { requests = x; permissions = p; channels = c; no-refresh = n });
-        few-sends = omega (arith, f .few-sends, none-sent);
-        few-asks = omega (arith, f .few-asks);
-        few-timeouts = omega (arith, f .few-timeouts);
+        means = f .means ∙ sym e;
+        tidy = λ x p c n. f .tidy tt (b .tidy x p c n);
+        few-sends = omega (arith, f .few-sends, b .few-sends);
+        few-timeouts = omega (arith, f .few-timeouts, b .few-timeouts);
+        few-asks = omega (arith, f .few-asks, b .few-asks);
       }
+
+  pub plans-nothing : (now : ℕ) (reliable closing : Bool) (d : Draft) → 9007199254740991 < now → Begins requests permissions channels refresh d
+      → Plans requests permissions channels refresh now reliable closing d
+  plans-nothing now reliable closing d h b =
+      record {
+        means = b .means ∙ rw (lt-leb now 9007199254740991 h);
+        tidy = b .tidy;
+        few-sends = omega (arith, b .few-sends);
+        few-timeouts = omega (arith, b .few-timeouts);
+        few-asks = omega (arith, b .few-asks);
+      }
+
+  pub plans-all : (now : ℕ) (reliable closing : Bool) (d r : Draft) → now ≤ 9007199254740991 → Begins requests permissions channels refresh d
+      → Drafts (Unit {0}) 64 65 d (planned-from now reliable closing (plan-in d)) r → Plans requests permissions channels refresh now reliable closing r
+  plans-all now reliable closing d r h b f =
+      after-entry d r (cond (leb now 9007199254740991) (planned-from now reliable closing at-entry) at-entry) (planned-from now reliable closing (plan-in d)) 64 65
+      (rw (le-leb now 9007199254740991 h) (ap (planned-from now reliable closing) (sym (b .means)))) b f
+
+  pub binds-all : (ip : Ip) (d r : Draft) (places : Places) → Begins requests permissions channels refresh d → places ≡ waiting-places channels ip
+      → Drafts (Unit {0}) 0 32 d (each plan-bind (map address-in (take (places .len) (places .rows))) (plan-in d)) r → Binds requests permissions channels refresh ip r
+  binds-all ip d r places b e f =
+      let peers : map address-in (take (places .len) (places .rows)) ≡ waiting-peers ip (chans-in channels) =
+      ap (λ (i : Places). map address-in (take (i .len) (i .rows))) e ∙ waiting-places-shown channels ip in
+      after-entry d r (plan-binds ip at-entry) (each plan-bind (map address-in (take (places .len) (places .rows))) (plan-in d)) 0 32
+      (sym (ap (λ (l : List Address). each plan-bind l (plan-in d)) peers ∙ ap (λ (p : Plan). each plan-bind (waiting-peers ip (chans-in channels)) p) (b .means))) b f

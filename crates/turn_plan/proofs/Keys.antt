@@ -47,6 +47,14 @@ module _ {R : Type 0} (is : R → Bool) where
   remove-step x r l true rest k = refl
   remove-step x r l false rest k = ap suc (rest k)
 
+  shorter-step : (x : R) (l : List R) (b : Bool) → length (remove is l) ≤ length l → length (cond b l (x ∷ remove is l)) ≤ suc (length l)
+  shorter-step x l true rest = omega arith
+  shorter-step x l false rest = omega arith
+
+  pub remove-short : (l : List R) → length (remove is l) ≤ length l
+  remove-short [] = omega arith
+  remove-short (x ∷ l) = shorter-step x l (is x) (remove-short l)
+
   pub length-remove : (r : R) (l : List R) → get is l ≡ some r → suc (length (remove is l)) ≡ length l
   length-remove r [] e = let z : _≡_ {A = Bool} true false = cc in let q : _≡_ {A = ℕ} 0 1 = cc in omega arith
   length-remove r (x ∷ l) e = remove-step x r l (is x) (length-remove r l) e

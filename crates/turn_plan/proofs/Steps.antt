@@ -15,13 +15,13 @@ use Rattle.stun_address.specs.declared.Ip.{Ip}
 use Rattle.stun_address.specs.declared.Address.{Address}
 use Rattle.turn_state.specs.declared.Reason.the-variants.{Timeout}
 use Rattle.turn_state.specs.declared.Event.the-variants.{Failed}
-use Rattle.turn_state.specs.State.{Message, Txn, Perm, Chan, Turn, Added, Run, id-at, new-tid, drew, on-self, set-refresh-at, set-chans, set-txns, begin}
+use Rattle.turn_state.specs.State.{Message, Txn, Perm, Chan, Turn, Added, Run, id-at, new-tid, drew, on-self, set-refresh-at, set-perms, set-chans, set-txns, begin}
 use Rattle.turn_state.specs.Source
 use Rattle.turn_state.specs.Number.{full}
 use Rattle.turn_state.specs.View.{message-of}
 use Rattle.turn_plan.specs.Plan
 use Rattle.turn_plan.specs.Follows
-use Rattle.turn_plan.proofs.Keys.{found-is, get-insert, length-insert, length-remove, Held, held-insert, held-due}
+use Rattle.turn_plan.proofs.Keys.{found-is, get-insert, length-insert, length-remove, remove-short, Held, held-insert, held-due}
 
 -- full of one more
 pub full-snoc : (a : List Added) (x : Added) → full (a ++ (x ∷ [])) ≡ (full a || leb (x .room) (x .held))
@@ -37,7 +37,7 @@ map-snoc f [] x = refl
 map-snoc f (y ∷ l) x = ap (λ (r : List _). f y ∷ r) (map-snoc f l x)
 
 -- the run with other additions reported
-abbrev with-added : List Added → Run → Run
+abbrev pub with-added : List Added → Run → Run
 with-added a s =
     record {
       self = s .self;
@@ -51,7 +51,7 @@ with-added a s =
 abbrev pub grown : Bool → ℕ → ℕ → List Added → List Added
 grown b room held a = cond b a (a ++ (record { room = room; held = held } ∷ []))
 
-add-is : (b : Bool) (room held : ℕ) (s : Run) → Source.add b room held s ≡ with-added (grown b room held (s .report .added)) s
+pub add-is : (b : Bool) (room held : ℕ) (s : Run) → Source.add b room held s ≡ with-added (grown b room held (s .report .added)) s
 add-is true room held s = refl
 add-is false room held s = refl
 
@@ -62,25 +62,50 @@ ask-run : (c : Turn) (now : ℕ) (lent : List ℕ) (p : Plan.Plan) (added : List
 unfolding Source.request Source.insert-txn
 ask-run c now lent p added kind = rw (length-drawn lent (p .kinds), add-is, ← append-assoc, map-snoc)
 
-module _ (c : Turn) (now : ℕ) (lent : List ℕ) where
-  abbrev Runs : Plan.Plan → Run → Type 0
-  Runs p s = Follows.Follows c now lent p s
+pub grown-full : (b : Bool) (room n : ℕ) (a : List Added) → full (grown b room n a) ≡ (full a || (not b && leb room n))
+grown-full true room n a = sym (or-false (full a))
+grown-full false room n a = full-snoc a (record { room = room; held = n })
 
-  grown-full : (b : Bool) (n : ℕ) (a : List Added) → full (grown b 64 n a) ≡ (full a || (not b && leb 64 n))
-  grown-full true n a = sym (or-false (full a))
-  grown-full false n a = full-snoc a (record { room = 64; held = n })
+-- whatever another record met
+module _ (other : Bool) (c : Turn) (now : ℕ) (lent : List ℕ) where
+  abbrev RunsFull : Plan.Plan → Run → Type 0
+  RunsFull p s = Follows.FollowsFull other c now lent p s
 
-  ask-follows : (p : Plan.Plan) (s : Run) (kind : Kind) → Runs p s
-      → Runs (Plan.asking kind p) (Source.request now kind (message-of kind (new-tid s) (new-tid s)) (drew s))
-  ask-follows p s kind f =
+  ask-full : (p : Plan.Plan) (s : Run) (kind : Kind) → RunsFull p s
+      → RunsFull (Plan.asking kind p) (Source.request now kind (message-of kind (new-tid s) (new-tid s)) (drew s))
+  ask-full p s kind f =
       let before = Follows.requested (Follows.first-next c now) lent (p .kinds) (p .txns) in
       let there = contains (Source.under-drawn (id-at lent (length (p .kinds)))) before in
       record {
         added = grown there 64 (length before) (f .added);
         run = rw (f .run) (ask-run c now lent p (f .added) kind);
-        met = rw (grown-full there (length before) (f .added), f .met);
+        met = rw (grown-full there 64 (length before) (f .added), f .met) (or-assoc other (Follows.met-full (Follows.first-next c now) lent (p .kinds) (p .txns)) (not there && leb 64 (length before)));
         small = f .small;
       }
+
+  -- channels that wait are bound, one after the other
+  bind-step : (peer : Address) (p : Plan.Plan) (s : Run) (o : Option Chan) → get (Source.for-peer peer) (p .chans) ≡ o → RunsFull p s
+      → RunsFull (if-let o (λ ch. Plan.asking (ChannelBind peer (ch .num)) p) p) (Source.bind-channel now peer s)
+  unfolding Source.bind-channel
+  bind-step peer p s none e f =
+      let k : get (Source.for-peer peer) (s .self .chans) ≡ none = ap (λ (r : Run). get (Source.for-peer peer) (r .self .chans)) (f .run) ∙ e in rw k f
+  bind-step peer p s (some ch) e f =
+      let k : get (Source.for-peer peer) (s .self .chans) ≡ some ch = ap (λ (r : Run). get (Source.for-peer peer) (r .self .chans)) (f .run) ∙ e in
+      rw k (ask-full p s (ChannelBind peer (ch .num)) f)
+
+  binds-follow : (peers : List Address) (p : Plan.Plan) (s : Run) → RunsFull p s → RunsFull (each Plan.plan-bind peers p) (each (Source.bind-channel now) peers s)
+  unfolding Plan.plan-bind
+  binds-follow [] p s f = f
+  binds-follow (peer ∷ peers) p s f =
+      binds-follow peers (Plan.plan-bind peer p) (Source.bind-channel now peer s) (bind-step peer p s (get (Source.for-peer peer) (p .chans)) refl f)
+
+module _ (c : Turn) (now : ℕ) (lent : List ℕ) where
+  abbrev Runs : Plan.Plan → Run → Type 0
+  Runs p s = Follows.Follows c now lent p s
+
+  ask-follows : (p : Plan.Plan) (s : Run) (kind : Kind) → Runs p s
+      → Runs (Plan.asking kind p) (Source.request now kind (message-of kind (new-tid s) (new-tid s)) (drew s))
+  ask-follows = ask-full false c now lent
 
   -- one way or the other, by a test that both sides make
   choose-follows : (b : Bool) (p q : Plan.Plan) (s t : Run) → Runs p s → Runs q t → Runs (cond b p q) (cond b s t)
@@ -171,7 +196,7 @@ module _ (c : Turn) (now : ℕ) (lent : List ℕ) where
       record {
         added = grown there 64 (length (p .txns)) (f .added);
         run = rw (f .run, add-is) (simp (append-nil, map-snoc));
-        met = rw (grown-full there (length (p .txns)) (f .added), f .met, lt-leb 64 (length (p .txns)) (omega arith)) (and-false (not there));
+        met = rw (grown-full there 64 (length (p .txns)) (f .added), f .met, lt-leb 64 (length (p .txns)) (omega arith)) (and-false (not there));
         small = omega (arith, length-insert (Source.under-drawn (t .msg .tid)) (Source.repeated now t) (p .txns));
       }
 
@@ -255,3 +280,25 @@ poll-follows c now lent few =
 pub start-follows : (c : Turn) (now : ℕ) (lent : List ℕ) → length (c .txns) ≤ 64 → Follows.Follows c now lent (Plan.asking Allocate (Plan.entry c)) (Source.start now (begin c lent))
 unfolding Source.start
 start-follows c now lent few = ask-follows c now lent (Plan.entry c) (begin c lent) Allocate (record { added = []; run = refl; met = refl; small = few })
+
+-- and that of a permission's success for its success, also where the permission meets a full table
+pub success-follows : (c : Turn) (now : ℕ) (lent id buf : List ℕ) (ip : Ip) → length (c .txns) ≤ 64
+    → Follows.FollowsFull (Follows.perm-full (c .perms) ip) c now lent (Plan.plan-success now id ip c)
+    (Source.on-success now (Permission ip) buf (on-self (set-txns (remove (Source.under-id id) (c .txns))) (begin c lent)))
+unfolding Source.on-success Source.insert-perm
+success-follows c now lent id buf ip few =
+    let other = Follows.perm-full (c .perms) ip in
+    let there = contains (Source.for-ip ip) (c .perms) in
+    let q = Plan.with-perms (Plan.granting now ip (c .perms)) (Plan.with-txns (remove (Source.under-id id) (c .txns)) (Plan.entry c)) in
+    let s₀ = on-self (set-txns (remove (Source.under-id id) (c .txns))) (begin c lent) in
+    let s = on-self (set-perms (Plan.granting now ip (c .perms))) (Source.add there 32 (length (c .perms)) s₀) in
+    let f : Follows.FollowsFull other c now lent q s =
+    record {
+      added = grown there 32 (length (c .perms)) [];
+      run = rw (add-is there 32 (length (c .perms)) s₀);
+      met = grown-full there 32 (length (c .perms)) [] ∙ sym (or-false other);
+      small = omega (arith, few, remove-short (Source.under-id id) (c .txns));
+    } in
+    let e : s .self .chans ≡ c .chans = ap (λ (r : Run). r .self .chans) (f .run) in
+    subst (λ (l : List Chan). Follows.FollowsFull other c now lent (Plan.plan-success now id ip c) (each (Source.bind-channel now) (Plan.waiting-peers ip l) s)) (sym e)
+    (binds-follow other c now lent (Plan.waiting-peers ip (c .chans)) q s f)

@@ -21,7 +21,8 @@ use Rattle.turn_tables.specs.Tables.{pushed-request, put-request}
 use Rattle.turn_state.specs.declared.Asks.{Asks}
 use Rattle.turn_plan.specs.declared.Draft.{Draft}
 use Rattle.turn_plan.specs.declared.Refreshing.{Refreshing}
-use Rattle.turn_plan.specs.Plan.{Plan, planned-from}
+use Rattle.stun_address.specs.declared.Ip.{Ip}
+use Rattle.turn_plan.specs.Plan.{Plan, planned-from, plan-binds}
 
 -- a request over the one at its place, or last
 abbrev pub insert-at : Position → Requests → Request → Requests
@@ -101,11 +102,24 @@ entry-of requests permissions channels refresh =
       timeouts = 0;
     }
 
--- what the code plans for them; above the limit of times it plans nothing
-pub record Plans (requests : Requests) (permissions : Permissions) (channels : Channels) (refresh : Refreshing) (now : ℕ) (reliable closing : Bool) (r : Draft) : Type 0 where
-  pub means : plan-in r
-      ≡ cond (leb now 9007199254740991) (planned-from now reliable closing (entry-of requests permissions channels refresh)) (entry-of requests permissions channels refresh)
+-- from them the code made `r`, which means `due`, with no more than so many requests that are sent again or timed out, and asked for
+pub record From (requests : Requests) (permissions : Permissions) (channels : Channels) (refresh : Refreshing) (due : Plan) (sent asked : ℕ) (r : Draft) : Type 0 where
+  pub means : plan-in r ≡ due
   pub tidy : TidyRequests requests → TidyPermissions permissions → TidyChannels channels → absent (refresh .held) 0 (refresh .at) → TidyDraft r
-  pub few-sends : r .sends .len ≤ 64
-  pub few-asks : r .asks .len ≤ 65
-  pub few-timeouts : r .timeouts ≤ 64
+  pub few-sends : r .sends .len ≤ sent
+  pub few-timeouts : r .timeouts ≤ sent
+  pub few-asks : r .asks .len ≤ asked
+
+abbrev pub Begins : Requests → Permissions → Channels → Refreshing → Draft → Type 0
+Begins requests permissions channels refresh r = From requests permissions channels refresh (entry-of requests permissions channels refresh) 0 0 r
+
+-- what the code plans for them; above the limit of times it plans nothing
+abbrev pub Plans : Requests → Permissions → Channels → Refreshing → ℕ → Bool → Bool → Draft → Type 0
+Plans requests permissions channels refresh now reliable closing r =
+    let p = entry-of requests permissions channels refresh in
+    From requests permissions channels refresh (cond (leb now 9007199254740991) (planned-from now reliable closing p) p) 64 65 r
+
+-- the draft of a permission's success, from the tables in which its request is gone and it is granted
+abbrev pub Binds : Requests → Permissions → Channels → Refreshing → Ip → Draft → Type 0
+Binds requests permissions channels refresh ip r =
+    From requests permissions channels refresh (plan-binds ip (entry-of requests permissions channels refresh)) 0 32 r

@@ -5,12 +5,13 @@ use mathlib.Core.List.{List, [], _∷_, _++_, map}
 use Prim.Native.Nat.{ℕ, _+_, _-_, _≤_}
 use lib.ListN.{length, replicate}
 use lib.Dec.{leb}
+use Rattle.stun_address.specs.declared.Ip.{Ip}
 use Rattle.turn_state.specs.declared.Kind.{Kind}
 use Rattle.turn_state.specs.declared.Event.the-variants.{Failed}
 use Rattle.turn_state.specs.declared.Reason.the-variants.{Timeout}
 use Rattle.turn_state.specs.Maps.{contains, insert}
-use Rattle.turn_state.specs.State.{Message, Txn, Turn, Added, Run, id-at}
-use Rattle.turn_state.specs.Source.{under-drawn, encode, first-wait}
+use Rattle.turn_state.specs.State.{Message, Txn, Perm, Turn, Added, Run, id-at}
+use Rattle.turn_state.specs.Source.{under-drawn, for-ip, encode, first-wait}
 use Rattle.turn_state.specs.Number.{full}
 use Rattle.turn_state.specs.View.{message-of}
 use Rattle.turn_plan.specs.Plan.{Plan}
@@ -41,6 +42,10 @@ met-full next lent [] txns = false
 met-full next lent (k ∷ ks) txns =
     met-full next lent ks txns
     || (not (contains (under-drawn (id-at lent (length ks))) (requested next lent ks txns)) && leb 64 (length (requested next lent ks txns)))
+
+-- 5, of a permission: it would be added to a full table
+abbrev pub perm-full : List Perm → Ip → Bool
+perm-full perms ip = not (contains (for-ip ip) perms) && leb 32 (length perms)
 
 -- when a request that is made now is due
 abbrev pub first-next : Turn → ℕ → ℕ
@@ -81,9 +86,12 @@ run-of c now lent p added =
       report = record { used = drawn lent (p .kinds); added = added; texts = []; bodies = body-lengths (planned-packets c lent p) };
     }
 
--- `s` is that run
-pub record Follows (c : Turn) (now : ℕ) (lent : List ℕ) (p : Plan) (s : Run) : Type 0 where
+-- `s` is that run, where another record than a request met a full table or not
+pub record FollowsFull (other : Bool) (c : Turn) (now : ℕ) (lent : List ℕ) (p : Plan) (s : Run) : Type 0 where
   pub added : List Added
   pub run : s ≡ run-of c now lent p added
-  pub met : full added ≡ met-full (first-next c now) lent (p .kinds) (p .txns)
+  pub met : full added ≡ (other || met-full (first-next c now) lent (p .kinds) (p .txns))
   pub small : length (p .txns) ≤ 64
+
+abbrev pub Follows : Turn → ℕ → List ℕ → Plan → Run → Type 0
+Follows c now lent p s = FollowsFull false c now lent p s

@@ -1,5 +1,5 @@
--- What a poll comes to before an id is drawn and a byte written: the tables after the due requests, what is sent again, and what is to
--- be asked for. It has the definition's steps, without ids, packets and report.
+-- What a poll, or the success of a permission, comes to before an id is drawn and a byte written: the tables after the due requests,
+-- what is sent again, and what is to be asked for. It has the definition's steps, without ids, packets and report.
 use mathlib.Core.Bool.{Bool, true, false, cond, _&&_, _||_}
 use mathlib.Core.List.{List, [], _∷_, _++_, map}
 use mathlib.Core.Option.{Option, none, some}
@@ -11,7 +11,7 @@ use Rattle.turn_state.specs.declared.Kind.{Kind}
 use Rattle.turn_state.specs.declared.Kind.the-variants.{Allocate, Refresh, Permission, ChannelBind}
 use Rattle.turn_state.specs.Maps.{get, contains, insert, remove, filter, each, if-let}
 use Rattle.turn_state.specs.State.{Message, Txn, Perm, Chan, Turn}
-use Rattle.turn_state.specs.Source.{under-id, under-drawn, for-ip, for-peer, repeated, renewed-at, is-due, MAX-TRIES}
+use Rattle.turn_state.specs.Source.{under-id, under-drawn, for-ip, for-peer, waiting, repeated, renewed-at, is-due, MAX-TRIES, PERMISSION-REFRESH}
 
 pub record Plan : Type 0 where
   pub txns : List Txn
@@ -113,3 +113,21 @@ planned-from now reliable closing p₀ =
 
 abbrev pub planned : ℕ → Turn → Plan
 planned now c = planned-from now (c .reliable) (c .closing) (entry c)
+
+-- a channel that is there is to be bound
+unfoldable pub plan-bind : Address → Plan → Plan
+plan-bind peer p = if-let (get (for-peer peer) (p .chans)) (λ c. asking (ChannelBind peer (c .num)) p) p
+
+-- every unbound channel of an IP, in table order
+abbrev pub waiting-peers : Ip → List Chan → List Address
+waiting-peers ip chans = map (λ c. c .peer) (filter (waiting ip) chans)
+
+abbrev pub plan-binds : Ip → Plan → Plan
+plan-binds ip p = each plan-bind (waiting-peers ip (p .chans)) p
+
+-- the success of the permission for which the request of that id asked
+abbrev pub granting : ℕ → Ip → List Perm → List Perm
+granting now ip perms = insert (for-ip ip) (record { ip = ip; refresh = some (now + PERMISSION-REFRESH) }) perms
+
+abbrev pub plan-success : ℕ → List ℕ → Ip → Turn → Plan
+plan-success now id ip c = plan-binds ip (with-perms (granting now ip (c .perms)) (with-txns (remove (under-id id) (c .txns)) (entry c)))

@@ -1,6 +1,7 @@
 // What a poll comes to, from the tables alone, before an id is drawn and a byte written: `poll` of turn.rs without its packets. Due
 // requests are sent again or fail, in the order in which they stood at entry; then, unless the client is closing, the allocation,
-// permissions and channels that fall due are to be asked for again.
+// permissions and channels that fall due are to be asked for again. And what a permission's success comes to: every unbound channel
+// of its IP is to be bound.
 ghost use mathlib.Core.Path.{_≡_};
 ghost use mathlib.Core.List.{map};
 ghost use lib.ListN.{take};
@@ -9,8 +10,8 @@ ghost use Prim.Native.Nat.{_+_, _-_, _*_, _^_, _≤_, _<_, min};
 ghost use Rattle.turn_state.specs.State.{Turn};
 ghost use Rattle.turn_state.specs.Source.{RTO};
 ghost use Rattle.turn_state.specs.View.{kind-in, ip-in, address-in, txn-in, view, TidyRequest};
-ghost use Rattle.turn_plan.specs.Plan.{failed, sent-again, plan-due, asking, plan-refresh, plan-perm, plan-chan, planned-from};
-ghost use Rattle.turn_plan.specs.Draft.{inserted, plan-in, id-bytes as «bytes-of», Drafts, Plans};
+ghost use Rattle.turn_plan.specs.Plan.{failed, sent-again, plan-due, asking, plan-refresh, plan-perm, plan-chan, planned-from, plan-bind};
+ghost use Rattle.turn_plan.specs.Draft.{inserted, plan-in, id-bytes as «bytes-of», Drafts, Begins, Plans, Binds};
 use stun_address::Address;
 use stun_address::Ip;
 use turn_open::no_requests;
@@ -48,6 +49,7 @@ use turn_tables::put_request;
 use turn_tables::remove_channel;
 use turn_tables::remove_permission;
 use turn_tables::remove_request;
+use turn_tables::waiting_channels;
 
 // The tables as the poll leaves them but for what is still to be asked for; the requests that are sent again, in order; what is to be
 // asked for; and how many allocations timed out.
@@ -341,11 +343,27 @@ pub fn plan(
 ) -> Draft
     ensures { λ r. ⌜ Plans requests permissions channels refresh now reliable closing r ⌝ }
 {
+    let d = begun(requests, permissions, channels, refresh);
+    if 9007199254740991 < now {
+        return d;
+    }
+    drafted(d, now, reliable, closing)
+}
+
+// The draft at entry.
+fn begun(
+    requests: Requests,
+    permissions: Permissions,
+    channels: Channels,
+    refresh: Refreshing,
+) -> Draft
+    ensures { λ r. ⌜ Begins requests permissions channels refresh r ⌝ }
+{
     let sends = no_requests();
     let blank = asked_of(Kind::Allocate);
     let rows = [blank; 65];
     let asks = Asks { rows: rows, len: 0 };
-    let d = Draft {
+    Draft {
         requests: requests,
         permissions: permissions,
         channels: channels,
@@ -355,9 +373,53 @@ pub fn plan(
         refresh_at: refresh.at,
         has_refresh: refresh.held,
         done: refresh.done,
-    };
-    if 9007199254740991 < now {
-        return d;
     }
-    drafted(d, now, reliable, closing)
+}
+
+// A channel that waits for its permission, to be bound.
+fn bind(d: Draft, place: Place) -> Draft
+    requires { ⌜ d .asks .len < 65 ⌝ }
+    ensures { λ r. ⌜ Drafts (Unit {0}) 0 1 d (plan-bind (address-in place) (plan-in d)) r ⌝ }
+{
+    let table = d.channels;
+    let peer = address_of(place);
+    match find_channel(table, peer) {
+        Position::At(i) => {
+            let row = table.rows[i];
+            let asked = asked_of(Kind::ChannelBind(peer, row.number));
+            ask(d, asked)
+        }
+        Position::Nowhere => d,
+    }
+}
+
+fn bind_all(d: Draft, places: Places) -> Draft
+    requires { ⌜ (places .len ≤ 32) × (d .asks .len ≡ 0) ⌝ }
+    ensures { λ r. ⌜ Drafts (Unit {0}) 0 32 d (each plan-bind (map address-in (take (places .len) (places .rows))) (plan-in d)) r ⌝ }
+{
+    let n = places.len;
+    let mut at = d;
+    let mut k = 0;
+    while k < n {
+        let place = places.rows[k];
+        let next = bind(at, place);
+        at = next;
+        k += 1;
+    }
+    at
+}
+
+// The plan of a permission's success, from the tables in which its request is gone and it is granted.
+pub fn binding(
+    requests: Requests,
+    permissions: Permissions,
+    channels: Channels,
+    refresh: Refreshing,
+    ip: Ip,
+) -> Draft
+    ensures { λ r. ⌜ Binds requests permissions channels refresh ip r ⌝ }
+{
+    let places = waiting_channels(channels, ip);
+    let d = begun(requests, permissions, channels, refresh);
+    bind_all(d, places)
 }

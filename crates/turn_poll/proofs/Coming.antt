@@ -28,6 +28,7 @@ use Rattle.turn_tables.specs.Tables.{pushed-request, put-request}
 use Rattle.turn_tables.proofs.Keys.{at-contains, nowhere-contains}
 use Rattle.turn_tables.proofs.Laws.{txns-length, found-txn, add-txn, replace-txn, tidy-pushed-request, tidy-put-request}
 use Rattle.turn_ids.specs.Ids.{lent-id}
+use Rattle.turn_ids.proofs.Verdicts.{contains-none, contains-drawn, id-missing}
 use Rattle.turn_plan.proofs.Drafting.{insert-drawn}
 use Rattle.turn_plan.specs.Follows.{txn-at, requested, met-full}
 use Rattle.turn_state.proofs.Rows.{kind-back}
@@ -38,22 +39,12 @@ use Rattle.turn_poll.specs.Taking.{Takes, Took}
 never : {A : Type 0} → _≡_ {A = Bool} true false → A
 never e = let z : _≡_ {A = ℕ} 0 1 = cc in let f : ⊥ = omega arith in absurd f
 
--- no record has an id that was not lent
-contains-none : (l : List Txn) → contains (under-drawn []) l ≡ false
-contains-none [] = refl
-contains-none (t ∷ l) = contains-none l
-
 length-none : (x : Txn) (l : List Txn) → length (insert (under-drawn []) x l) ≡ suc (length l)
 length-none x [] = refl
 length-none x (t ∷ l) = ap suc (length-none x l)
 
 length-missing : (id : List ℕ) (x : Txn) (l : List Txn) → id ≡ [] → length (insert (under-drawn id) x l) ≡ suc (length l)
 length-missing id x l e = ap (λ (i : List ℕ). length (insert (under-drawn i) x l)) e ∙ length-none x l
-
--- an id of twelve bytes is one that was lent
-contains-drawn : (id : List ℕ) (l : List Txn) → length id ≡ 12 → contains (under-id id) l ≡ contains (under-drawn id) l
-contains-drawn [] l e = let z : ⊥ = omega arith in absurd z
-contains-drawn (b ∷ bs) l e = refl
 
 -- the state is full already
 pub stays-full : (s : Taken) (a : Asked) (lent : List ℕ) (k next : ℕ) → s .full ≡ true → s .table .len ≤ 64 → Took s a lent k next s
@@ -73,7 +64,7 @@ stays-full s a lent k next e small =
 -- no id is lent for it
 module _ (s : Taken) (a : Asked) (lent : List ℕ) (k next : ℕ) (open-yet : s .full ≡ false) (small : s .table .len ≤ 64) (rows : length (s .table .rows) ≡ 64) (missing : ids-in lent ≤ k) where
   no-id : (ks : List Kind) → length ks ≡ k → id-at lent (length ks) ≡ []
-  no-id ks n = rw (le-ltb (length ks) (ids-in lent) (omega arith))
+  no-id ks n = id-missing lent (length ks) (omega arith)
 
   met-none : (ks : List Kind) (txns : List Txn) → length ks ≡ k → Takes next lent ks txns s → met-full next lent (kind-in a ∷ ks) txns ≡ leb 64 (s .table .len + s .extra)
   met-none ks txns n t =

@@ -21,12 +21,13 @@ use Rattle.turn_state.specs.declared.Event.{Event}
 use Rattle.turn_state.specs.declared.Event.the-variants.{Failed}
 use Rattle.turn_state.specs.declared.Reason.the-variants.{Timeout}
 use Rattle.turn_state.specs.State.{Txn, Turn, Run, ids-in, set-txns, begin}
-use Rattle.turn_state.specs.Number.{Given, number, settled, first, above, full, clash, framed, pending}
+use Rattle.turn_state.specs.Number.{given-of, Given, number, settled, first, above, full, clash, framed, pending}
 use Rattle.turn_state.specs.View.{view, told, kind-in, asked-of, txns-in, Each, Tidy, TidyRequests, Meets}
 use Rattle.turn_state.proofs.Answering.{refused-meets, accepted-meets}
 use Rattle.turn_packet.proofs.Rooms.{Rooms}
 use Rattle.turn_packet.proofs.Frames.{framed-append}
-use Rattle.turn_ids.specs.Ids.{ids-from}
+use Rattle.turn_ids.proofs.Verdicts.{number-is}
+use Rattle.turn_ids.specs.Ids.{ids-from, verdict-of}
 use Rattle.turn_frames.specs.Frames.{numbered, sends-in, asks-in, sends-size, asks-size}
 use Rattle.turn_frames.proofs.Laws.{Ided, each-take, sends-length, asks-length}
 use Rattle.turn_plan.specs.declared.Draft.{Draft}
@@ -40,7 +41,7 @@ use Rattle.turn_plan.specs.Follows.{Follows, drawn, met-full, requested, planne
 use Rattle.turn_plan.proofs.Steps.{length-drawn, poll-follows, start-follows}
 use Rattle.turn_poll.specs.declared.Taken.{Taken}
 use Rattle.turn_poll.specs.Taking.{Takes, TookAll}
-use Rattle.turn_poll.specs.Concluding.{given-of, Allocates}
+use Rattle.turn_poll.specs.Concluding.{Allocates}
 use Rattle.turn_poll.proofs.Coming.{length-kinds}
 use Rattle.turn_poll.proofs.Packets.{again-packets, ask-packets, never-long, drawn-ids}
 
@@ -68,12 +69,6 @@ told-some = told-of
 pub took-at : (t : Requests) (a : Asks) (lent : List ℕ) (n m : ℕ) (r : Taken) → n ≡ m → TookAll t a lent n r → TookAll t a lent m r
 took-at t a lent n m r e h = rw e at h
 
--- as many ids as are used are lent
-pub clash-used : (t : Requests) (lent : List ℕ) (used : ℕ) (b : Bool) → used ≤ ids-in lent → clash (map (λ x. x .msg .tid) (txns-in t)) (ids-from lent 0 (min used (ids-in lent))) ≡ b
-    → clash (map (λ x. x .msg .tid) (txns-in t)) (ids-from lent 0 used) ≡ b
-clash-used t lent used b h e =
-    let m : min used (ids-in lent) ≡ used = omega arith in rw m at e
-
 length-numbered : {R : Type 0} (f : ℕ → R → List ℕ) (k : ℕ) (l : List R) → length (numbered f k l) ≡ length l
 length-numbered f k [] = refl
 length-numbered f k (r ∷ l) = ap suc (length-numbered f (suc k) l)
@@ -97,30 +92,6 @@ module _ (client : Client) (d : Draft) (now : ℕ) (lent out : List ℕ) (s : Ru
       let e : length (take (d .asks .len) (d .asks .rows)) ≡ d .asks .len = rw length-take (omega arith) in
       drawn-ids lent (take (d .asks .len) (d .asks .rows)) ∙ ap (ids-from lent 0) e
 
-  number-is : number g c s
-      ≡ first ((1, false) ∷ (2, false) ∷ (4, false) ∷ (5, met) ∷ (6, ltb (ids-in lent) (d .asks .len)) ∷ (7, clash (pending c) (ids-from lent 0 (d .asks .len))) ∷ (8, ltb (length out) (length (framed (planned-packets c lent (plan-in d))))) ∷ [])
-  unfolding number
-  number-is =
-      rw (f .run, le-ltb 9007199254740991 now in-time, never-long client rooms (take (d .sends .len) (d .sends .rows)) lent (take (d .asks .len) (d .asks .rows)) (each-take (d .sends .len) ided), f .met, used-is, ids-are)
-
-  abbrev short : Bool
-  short = ltb (ids-in lent) (d .asks .len)
-
-  abbrev clashing : Bool
-  clashing = clash (pending c) (ids-from lent 0 (d .asks .len))
-
-  abbrev cramped : Bool
-  cramped = ltb (length out) (length (framed (planned-packets c lent (plan-in d))))
-
-  pub five : met ≡ true → number g c s ≡ 5
-  five e = number-is ∙ rw e
-
-  pub six : met ≡ false → ids-in lent < d .asks .len → number g c s ≡ 6
-  six e h = number-is ∙ rw (e, lt-ltb (ids-in lent) (d .asks .len) h)
-
-  pub seven : met ≡ false → d .asks .len ≤ ids-in lent → clashing ≡ true → number g c s ≡ 7
-  seven e h k = number-is ∙ rw (e, le-ltb (ids-in lent) (d .asks .len) h, k)
-
   pub packets-are : d .asks .len ≤ ids-in lent → planned-packets c lent (plan-in d) ≡ sends-in (client .credentials) (d .sends) ++ asks-in (client .credentials) lent (d .asks)
   packets-are h =
       rw (again-packets client (take (d .sends .len) (d .sends .rows)), ask-packets client lent (take (d .asks .len) (d .asks .rows)) (rw length-take (omega arith)))
@@ -130,13 +101,19 @@ module _ (client : Client) (d : Draft) (now : ℕ) (lent out : List ℕ) (s : Ru
   size-is h =
       rw (packets-are h, framed-append, length-append, sends-length (client .credentials) rooms (d .sends) ided, asks-length (client .credentials) rooms lent (d .asks))
 
-  pub eight : (n : ℕ) → met ≡ false → d .asks .len ≤ ids-in lent → clashing ≡ false
-      → n ≡ sends-size (client .credentials) (take (d .sends .len) (d .sends .rows)) + asks-size (client .credentials) (take (d .asks .len) (d .asks .rows)) → length out < n → number g c s ≡ 8
-  eight n e h k size small = number-is ∙ rw (e, le-ltb (ids-in lent) (d .asks .len) h, k, lt-ltb (length out) (length (framed (planned-packets c lent (plan-in d)))) (omega (arith, size-is h)))
+  -- the number, by what the code has found out
+  pub decided : (n : ℕ) → n ≡ sends-size (client .credentials) (take (d .sends .len) (d .sends .rows)) + asks-size (client .credentials) (take (d .asks .len) (d .asks .rows))
+      → number g c s ≡ verdict-of met (pending c) lent (d .asks .len) n (length out)
+  decided n size =
+      number-is g c s met (d .asks .len) n in-time (ap (λ (r : Run). above 763 (r .report .texts)) (f .run))
+      (ap (λ (r : Run). above 65535 (r .report .bodies)) (f .run) ∙ never-long client rooms (take (d .sends .len) (d .sends .rows)) lent (kinds-in (d .asks)) (each-take (d .sends .len) ided))
+      (ap (λ (r : Run). full (r .report .added)) (f .run) ∙ f .met) (ap (λ (r : Run). r .report .used) (f .run) ∙ ids-are)
+      (λ h. ap (λ (r : Run). length (framed (r .out))) (f .run) ∙ size-is h ∙ sym size)
 
-  pub none : (n : ℕ) → met ≡ false → d .asks .len ≤ ids-in lent → clashing ≡ false
-      → n ≡ sends-size (client .credentials) (take (d .sends .len) (d .sends .rows)) + asks-size (client .credentials) (take (d .asks .len) (d .asks .rows)) → n ≤ length out → number g c s ≡ 0
-  none n e h k size room = number-is ∙ rw (e, le-ltb (ids-in lent) (d .asks .len) h, k, le-ltb (length out) (length (framed (planned-packets c lent (plan-in d)))) (omega (arith, size-is h)))
+  pub decided-as : (t : Taken) → TookAll (d .requests) (d .asks) lent (first-next c now) t → (n v : ℕ)
+      → n ≡ sends-size (client .credentials) (take (d .sends .len) (d .sends .rows)) + asks-size (client .credentials) (take (d .asks .len) (d .asks .rows))
+      → v ≡ verdict-of (t .full) (pending c) lent (d .asks .len) n (length out) → number g c s ≡ v
+  decided-as t took n v size e = decided n size ∙ ap (λ (b : Bool). verdict-of b (pending c) lent (d .asks .len) n (length out)) (sym (took .takes .full)) ∙ sym e
 
   -- the client after it
   abbrev after : Requests → Client
@@ -171,7 +148,7 @@ module _ (client : Client) (d : Draft) (now : ℕ) (lent out : List ℕ) (s : Ru
       }
 
   pub accepted : (t : Taken) (n m : ℕ) (w₁ w₂ : Written) (o₁ o₂ : List ℕ) (event : Event) → TookAll (d .requests) (d .asks) lent (first-next c now) t → t .full ≡ false
-      → d .asks .len ≤ ids-in lent → clashing ≡ false → length (d .sends .rows) ≡ 64 → d .sends .len ≤ 64 → (Tidy client → TidyDraft d)
+      → d .asks .len ≤ ids-in lent → number g c s ≡ 0 → length (d .sends .rows) ≡ 64 → d .sends .len ≤ 64 → (Tidy client → TidyDraft d)
       → n ≡ sends-size (client .credentials) (take (d .sends .len) (d .sends .rows)) → m ≡ asks-size (client .credentials) (take (d .asks .len) (d .asks .rows)) → n + m ≤ length out
       → w₁ ≡ cond (leb (0 + n) (length out)) (Bytes (0 + n)) NoRoom → o₁ ≡ room-after w₁ (take 0 out ++ framed (sends-in (client .credentials) (d .sends))) out
       → w₂ ≡ cond (leb (n + m) (length o₁)) (Bytes (n + m)) NoRoom → o₂ ≡ room-after w₂ (take n o₁ ++ framed (asks-in (client .credentials) lent (d .asks))) o₁
@@ -185,10 +162,9 @@ module _ (client : Client) (d : Draft) (now : ℕ) (lent out : List ℕ) (s : Ru
       let size : length (framed (s .out)) ≡ n + m = rw (out-is, framed-append, length-append, ln, lm) in
       let exact : txns-in (t .table) ≡ requested (first-next c now) lent (kinds-in (d .asks)) (txns-in (d .requests)) =
       took .takes .exact open-yet (rw (length-kinds (d .asks .rows) (d .asks .len) (omega arith)) h) in
-      let met-none : met ≡ false = sym (took .takes .full) ∙ open-yet in
       accepted-meets client g s out
       (record { client = after (t .table); refusal = 0; event = event; events = d .timeouts; packets = d .sends .len + d .asks .len; len = n + m }) o₂
-      (none (n + m) met-none h k (rw (en, em)) room) refl
+      k refl
       (ap (λ (l : List Txn). set-txns l (planned-client c now lent (plan-in d))) exact ∙ sym (ap (λ (r : Run). r .self) (f .run)))
       (after-tidy t td (took .tidy))
       (sym (ap (λ (r : Run). length (r .ev)) (f .run) ∙ length-replicate (d .timeouts) (Failed Timeout)))
@@ -197,11 +173,6 @@ module _ (client : Client) (d : Draft) (now : ℕ) (lent out : List ℕ) (s : Ru
       (sym size)
       (both-written (framed (sends-in (client .credentials) (d .sends))) (framed (asks-in (client .credentials) lent (d .asks))) out o₁ o₂ n m w₁ w₂ ln lm room e₁ f₁ e₂ f₂
       ∙ rw (size, out-is, framed-append))
-
--- a time above the limit
-pub late : (now room : ℕ) (lent : List ℕ) (c : Turn) (s : Run) → 9007199254740991 < now → number (given-of now lent room) c s ≡ 1
-unfolding number
-late now room lent c s h = rw (lt-ltb 9007199254740991 now h)
 
 -- the draft of a start
 pub allocates : (client : Client) (sends : Requests) (a : Asked) (rows : List Asked) → sends ≡ blank-requests → a ≡ asked-of Allocate

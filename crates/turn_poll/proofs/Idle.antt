@@ -12,14 +12,13 @@ use Rattle.turn_state.specs.declared.Client.{Client}
 use Rattle.turn_state.specs.Maps.{filter, each}
 use Rattle.turn_state.specs.State.{Txn, Perm, Chan, Turn, Run, begin}
 use Rattle.turn_state.specs.Source.{poll, poll-refresh, poll-perms, poll-chans, due-of, is-due, consider, least, next-deadline}
-use Rattle.turn_state.specs.Number.{number, settled}
+use Rattle.turn_state.specs.Number.{given-of, number, settled}
 use Rattle.turn_state.specs.View.{view, refused-answer, Meets}
 use Rattle.turn_state.proofs.Answering.{accepted-meets}
 use Rattle.turn_open.proofs.Lose.{nothing-used}
 use Rattle.turn_deadline.specs.declared.Deadline.the-variants.{At, Never}
 use Rattle.turn_deadline.specs.Times.{deadline-of, time-of}
 use Rattle.turn_deadline.proofs.Scan.{time-back}
-use Rattle.turn_poll.specs.Concluding.{given-of}
 
 module _ (now : ℕ) where
   -- of two times the earlier is not due: neither is

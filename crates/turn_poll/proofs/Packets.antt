@@ -20,10 +20,10 @@ use Rattle.turn_state.specs.Number.{above, framed}
 use Rattle.turn_state.specs.View.{kind-in, txn-in, view, message-of, Each, no-rows, row}
 use Rattle.turn_packet.specs.Source.{packet-of}
 use Rattle.turn_packet.proofs.Laws.{packet-encode}
-use Rattle.turn_packet.proofs.Bounds.{packet-short}
+use Rattle.turn_packet.proofs.Bounds.{kind-short, packet-short}
 use Rattle.turn_packet.proofs.Rooms.{Rooms}
 use Rattle.turn_ids.specs.Ids.{lent-id, ids-from}
-use Rattle.turn_ids.proofs.Lent.{lent-is}
+use Rattle.turn_ids.proofs.Lent.{lent-is, id-short}
 use Rattle.turn_frames.specs.Frames.{again, sends-of, asks-of}
 use Rattle.turn_frames.proofs.Laws.{Ided}
 use Rattle.turn_plan.specs.Follows.{message-at, drawn, packets-of, body-lengths}
@@ -39,7 +39,7 @@ each-append (row h p) q = row h (each-append p q)
 each-snoc : {p : List (List ℕ)} (x : List ℕ) → Each Short p → Short x → Each Short (p ++ (x ∷ []))
 each-snoc x p h = each-append p (row h no-rows)
 
-not-above : {p : List (List ℕ)} → Each Short p → above 65535 (body-lengths p) ≡ false
+pub not-above : {p : List (List ℕ)} → Each Short p → above 65535 (body-lengths p) ≡ false
 not-above no-rows = refl
 not-above (row {r = r} h p) = let rest = not-above p in rw (le-ltb 65535 (length r - 20) (omega (arith, h)), rest)
 
@@ -75,33 +75,24 @@ module _ (client : Client) where
   ask-packets lent l h = ask-packets-from lent l [] (omega arith)
 
   -- none is long
-  id-short : (lent : List ℕ) (k : ℕ) → length (id-at lent k) ≤ 12
-  id-short lent k = by-test (ltb k (ids-in lent))
-    where
-      by-test : (b : Bool) → length (cond b (take 12 (drop (12 * k) lent)) []) ≤ 12
-      by-test true = rw length-take (omega arith)
-      by-test false = omega arith
-
   module _ (rooms : Rooms (client .credentials)) where
     short : (a : Asked) (id under : List ℕ) → length id ≤ 12 → length (packet-of (client .credentials) a id under) ≤ 3100
     short = packet-short (client .credentials) (rooms .username) (rooms .realm) (rooms .nonce)
-
-    short-ask : (lent : List ℕ) (k : ℕ) (a : Asked) → length (encode c (message-at lent k (kind-in a))) ≤ 3100
-    short-ask lent k a = rw (← packet-encode client a (id-at lent k) (id-at lent k)) (short a (id-at lent k) (id-at lent k) (id-short lent k))
 
     short-sends : {rows : List Request} → Each Ided rows → Each Short (sends-of (client .credentials) rows)
     short-sends no-rows = no-rows
     short-sends (row {r = r} h rest) = row (short (r .asked) (r .id) (r .under) (omega (arith, h .id))) (short-sends rest)
 
-    short-asks : (lent : List ℕ) (l : List Asked) (ks : List Kind) → Each Short (packets-of c lent ks) → Each Short (packets-of c lent (reverseAux (map kind-in l) ks))
-    short-asks lent [] ks h = h
-    short-asks lent (a ∷ l) ks h = short-asks lent l (kind-in a ∷ ks) (each-snoc (encode c (message-at lent (length ks) (kind-in a))) h (short-ask lent (length ks) a))
+    pub short-kinds : (lent : List ℕ) (ks : List Kind) → Each Short (packets-of c lent ks)
+    short-kinds lent [] = no-rows
+    short-kinds lent (k ∷ ks) =
+        each-snoc (encode c (message-at lent (length ks) k)) (short-kinds lent ks) (kind-short (client .credentials) (rooms .username) (rooms .realm) (rooms .nonce) k (id-at lent (length ks)) (id-at lent (length ks)) (id-short lent (length ks)))
 
-    pub never-long : (rows : List Request) (lent : List ℕ) (l : List Asked) → Each Ided rows
-        → above 65535 (body-lengths (map (encode c) (map (λ r. txn-in r .msg) rows) ++ packets-of c lent (reverse (map kind-in l)))) ≡ false
-    never-long rows lent l h =
+    pub never-long : (rows : List Request) (lent : List ℕ) (ks : List Kind) → Each Ided rows
+        → above 65535 (body-lengths (map (encode c) (map (λ r. txn-in r .msg) rows) ++ packets-of c lent ks)) ≡ false
+    never-long rows lent ks h =
         let sent : Each Short (map (encode c) (map (λ r. txn-in r .msg) rows)) = rw (again-packets rows) (short-sends h) in
-        not-above (each-append sent (short-asks lent l [] no-rows))
+        not-above (each-append sent (short-kinds lent ks))
 
 -- the ids that are drawn are the first ones lent
 drawn-from : (lent : List ℕ) (l : List Asked) (ks : List Kind) → drawn lent (reverseAux (map kind-in l) ks) ≡ drawn lent ks ++ ids-from lent (length ks) (length l)

@@ -1,25 +1,31 @@
-// `start` and `poll` of turn.rs: what is to be sent is planned first, then it is decided, and only then is anything written.
+// `start` and `poll` of turn.rs, and what `on_success` does for a permission: what is to be sent is planned first, then it is decided,
+// and only then is anything written.
 ghost use mathlib.Core.Path.{_≡_};
 ghost use mathlib.Core.Bool.{false, cond, not};
 ghost use Prim.Native.Nat.{_+_, _≤_, min};
 ghost use lib.ListN.{length, replicate};
 ghost use Rattle.turn_state.specs.Sequence.{outcome, Start, Poll};
-ghost use Rattle.turn_state.specs.Source.{is-due, next-deadline};
-ghost use Rattle.turn_state.specs.View.{view, told, Meets};
+ghost use Rattle.turn_state.specs.Maps.{remove};
+ghost use Rattle.turn_state.specs.Source.{is-due, next-deadline, under-id};
+ghost use Rattle.turn_state.specs.View.{view, told, txns-in, perms-in, TidyRequests, TidyPermissions, Meets};
+ghost use Rattle.turn_plan.specs.Plan.{granting};
+ghost use Rattle.turn_plan.specs.Follows.{perm-full};
 ghost use Rattle.turn_poll.specs.Taking.{Took, TookAll};
-ghost use Rattle.turn_poll.specs.Concluding.{Concludes, Allocates};
+ghost use Rattle.turn_poll.specs.Concluding.{Concludes, Allocates, Permits};
+use stun_address::Ip;
 use turn_deadline::Deadline;
 use turn_deadline::next_deadline;
 use turn_frames::asks_size;
 use turn_frames::sends_size;
 use turn_frames::write_asks;
 use turn_frames::write_sends;
-use turn_ids::clashes;
 use turn_ids::id_count;
 use turn_ids::id_of;
+use turn_ids::verdict;
 use turn_open::no_requests;
 use turn_plan::Draft;
 use turn_plan::Refreshing;
+use turn_plan::binding;
 use turn_plan::plan;
 use turn_state::Answer;
 use turn_state::Asked;
@@ -27,16 +33,23 @@ use turn_state::Asks;
 use turn_state::Client;
 use turn_state::Event;
 use turn_state::Kind;
+use turn_state::Permission;
+use turn_state::Permissions;
 use turn_state::Reason;
 use turn_state::Request;
 use turn_state::Requests;
 use turn_state::asked_of;
+use turn_state::host_of;
 use turn_state::kind_of;
 use turn_state::refused;
 use turn_tables::Position;
+use turn_tables::find_permission;
 use turn_tables::find_request;
+use turn_tables::push_permission;
 use turn_tables::push_request;
+use turn_tables::put_permission;
 use turn_tables::put_request;
+use turn_tables::remove_request;
 
 // The requests with those that were asked for so far, as long as ids are lent; how many more there would be without an id; and whether
 // one of them met a full table.
@@ -169,23 +182,16 @@ fn conclude(client: Client, d: Draft, now: u64, ids: &[u8], out: &mut [u8]) -> A
     let asks = d.asks;
     let next = first_next(now, client.reliable);
     let taken = take_all(table, asks, ids, next);
-    if taken.full {
-        return refused(client, 5);
-    }
-    let used = asks.len;
-    if id_count(ids) < used {
-        return refused(client, 6);
-    }
-    let pending = client.requests;
-    if clashes(pending, ids, used) {
-        return refused(client, 7);
-    }
     let credentials = client.credentials;
     let sends = d.sends;
     let first = sends_size(credentials, sends);
     let size = first + asks_size(credentials, asks);
-    if out.len() < size {
-        return refused(client, 8);
+    let pending = client.requests;
+    let used = asks.len;
+    let room = out.len();
+    let number = verdict(pending, taken.full, used, ids, size, room);
+    if number != 0 {
+        return refused(client, number);
     }
     write_sends(out, 0, credentials, sends);
     write_asks(out, first, credentials, asks, ids);
@@ -282,5 +288,67 @@ fn allocating(client: Client) -> Draft
         refresh_at: client.refresh_at,
         has_refresh: client.has_refresh,
         done: client.done,
+    }
+}
+
+// A permission is granted: the request of that id is gone, the permission stands, and every unbound channel of its IP is bound, in
+// table order.
+pub fn permit(client: Client, id: [u8; 12], ip: Ip, now: u64, ids: &[u8], out: &mut [u8]) -> Answer
+    ensures { λ r. ⌜ Permits client id ip now (ids .entry .now) (out .entry .now) r (out .exit .now) ⌝ }
+{
+    if 9007199254740991 < now {
+        return refused(client, 1);
+    }
+    let permissions = client.permissions;
+    if no_room(permissions, ip) {
+        return refused(client, 5);
+    }
+    let held = client.requests;
+    let channels = client.channels;
+    let requests = without(held, id);
+    let granted = grant(permissions, ip, now);
+    let refresh = Refreshing {
+        at: client.refresh_at,
+        held: client.has_refresh,
+        done: client.done,
+    };
+    let d = binding(requests, granted, channels, refresh, ip);
+    conclude(client, d, now, ids, out)
+}
+
+// 5, of a permission: it is not there, and its table is full.
+fn no_room(t: Permissions, ip: Ip) -> bool
+    ensures { λ r. ⌜ r ≡ perm-full (perms-in t) ip ⌝ }
+{
+    match find_permission(t, ip) {
+        Position::At(_) => false,
+        Position::Nowhere => 32 <= t.len,
+    }
+}
+
+// The requests without that of the id.
+fn without(t: Requests, id: [u8; 12]) -> Requests
+    ensures { λ r. ⌜ (txns-in r ≡ remove (under-id id) (txns-in t)) × (TidyRequests t → TidyRequests r) ⌝ }
+{
+    match find_request(t, id) {
+        Position::At(i) => remove_request(t, i),
+        Position::Nowhere => t,
+    }
+}
+
+// The permissions with that of the IP, granted, where there is room for it.
+fn grant(t: Permissions, ip: Ip, now: u64) -> Permissions
+    requires { ⌜ (perm-full (perms-in t) ip ≡ false) × (now ≤ 9007199254740991) ⌝ }
+    ensures { λ r. ⌜ (perms-in r ≡ granting now ip (perms-in t)) × (TidyPermissions t → TidyPermissions r) ⌝ }
+{
+    let host = host_of(ip);
+    let row = Permission {
+        host: host,
+        granted: true,
+        at: now + 240000,
+    };
+    match find_permission(t, ip) {
+        Position::At(i) => put_permission(t, i, row),
+        Position::Nowhere => push_permission(t, row),
     }
 }

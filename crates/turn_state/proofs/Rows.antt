@@ -1,5 +1,6 @@
--- The numbers of an address or a kind mean that address or kind again: for what rows hold, and for every value of the types.
-use mathlib.Core.Path.{_≡_, refl, ap}
+-- The numbers of an address or a kind mean that address or kind again: for what rows hold, and for every value of the types
+-- (own-*, which the contracts of `host_of`, `place_of` and `asked_of` say).
+use mathlib.Core.Path.{_≡_, refl, ap, sym, _∙_}
 use mathlib.Core.Bool.{Bool, true, false}
 use Prim.Native.Nat.{ℕ, _%_, _^_, _<_}
 use native.Mathlib.Nat.{mod-mod, mod-eq-of-lt}
@@ -35,23 +36,22 @@ back-of a false false false ex ey ez = rw (ex, ey, ez) (ap (λ (p : Address). Ch
 pub kind-back : (a : Asked) → kind-in (asked-of (kind-in a)) ≡ kind-in a
 kind-back a = back-of a (eqb (a .tag) 0) (eqb (a .tag) 1) (eqb (a .tag) 2) refl refl refl
 
--- an address of the enum's types comes back
-abbrev pub Fits : Ip → Type 0
-Fits (V4 x) = x < 2 ^ 32
-Fits (V6 h l) = Unit {0}
+-- an address whose numbers are of their types comes back, and so does what holds it
+pub own-v4 : (ip : Ip) (x : ℕ) → ip ≡ V4 x → x < 2 ^ 32
+    → (_≡_ {A = Host} (record { family = 1; high = 0; low = x }) (host-of ip)) × (ip-in (record { family = 1; high = 0; low = x }) ≡ ip)
+own-v4 ip x e h = (sym (ap host-of e), ap V4 (mod-eq-of-lt h) ∙ sym e)
 
-pub ip-kept : (ip : Ip) → Fits ip → ip-in (host-of ip) ≡ ip
-ip-kept (V4 x) h = ap V4 (mod-eq-of-lt h)
-ip-kept (V6 h l) f = refl
+pub own-v6 : (ip : Ip) (h l : ℕ) → ip ≡ V6 h l → (_≡_ {A = Host} (record { family = 2; high = h; low = l }) (host-of ip)) × (ip-in (record { family = 2; high = h; low = l }) ≡ ip)
+own-v6 ip h l e = (sym (ap host-of e), sym e)
 
-abbrev pub FitsKind : Kind → Type 0
-FitsKind Allocate = Unit {0}
-FitsKind (Refresh lifetime) = Unit {0}
-FitsKind (Permission ip) = Fits ip
-FitsKind (ChannelBind peer number) = Fits (peer .ip)
+pub own-place : (a : Address) (h : Host) → h ≡ host-of (a .ip) → ip-in h ≡ a .ip
+    → (_≡_ {A = Place} (record { host = h; port = a .port }) (place-of a)) × (address-in (record { host = h; port = a .port }) ≡ a)
+own-place a h e f = (rw e, rw f)
 
-pub kind-kept : (k : Kind) → FitsKind k → kind-in (asked-of k) ≡ k
-kind-kept Allocate h = refl
-kind-kept (Refresh lifetime) h = refl
-kind-kept (Permission ip) h = ap Permission (ip-kept ip h)
-kind-kept (ChannelBind peer number) h = rw (ip-kept (peer .ip) h)
+pub own-permission : (k : Kind) (ip : Ip) (h : Host) → k ≡ Permission ip → h ≡ host-of ip → ip-in h ≡ ip
+    → (_≡_ {A = Asked} (record { tag = 2; number = 0; lifetime = 0; peer = record { host = h; port = 0 } }) (asked-of k)) × (kind-in (record { tag = 2; number = 0; lifetime = 0; peer = record { host = h; port = 0 } }) ≡ k)
+own-permission k ip h ek e f = (rw (ek, e), ap Permission f ∙ sym ek)
+
+pub own-bind : (k : Kind) (peer : Address) (number : ℕ) (p : Place) → k ≡ ChannelBind peer number → p ≡ place-of peer → address-in p ≡ peer
+    → (_≡_ {A = Asked} (record { tag = 3; number = number; lifetime = 0; peer = p }) (asked-of k)) × (kind-in (record { tag = 3; number = number; lifetime = 0; peer = p }) ≡ k)
+own-bind k peer number p ek e f = (rw (ek, e), ap (λ (x : Address). ChannelBind x number) f ∙ sym ek)

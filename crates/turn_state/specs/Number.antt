@@ -21,6 +21,10 @@ pub record Given : Type 0 where
   pub ids : List ℕ
   pub room : ℕ
 
+-- of a call with a time and without data to send
+abbrev pub given-of : ℕ → List ℕ → ℕ → Given
+given-of now ids room = record { time = now; data-len = 0; ids = ids; room = room }
+
 -- some number of the list is above the limit
 abbrev pub above : ℕ → List ℕ → Bool
 above limit [] = false

@@ -7,7 +7,7 @@ use lib.ListN.{length}
 use Rattle.stun_address.specs.declared.Address.{Address}
 use Rattle.turn_state.specs.State.{Turn}
 use Rattle.turn_state.specs.Source.{start, handle, send, poll, transport-failed, close, next-deadline}
-use Rattle.turn_state.specs.Number.{Given, Outcome, called, opened}
+use Rattle.turn_state.specs.Number.{Given, given-of, Outcome, called, opened}
 
 -- times first, then what is the call's own, then the ids and the room that are lent
 pub data Call : Type 0 where
@@ -19,12 +19,12 @@ pub data Call : Type 0 where
   Close : List ℕ → ℕ → Call
 
 abbrev pub outcome : Turn → Call → Outcome
-outcome c (Start now ids room) = called (start now) (record { time = now; data-len = 0; ids = ids; room = room }) c
-outcome c (Handle now buf ids room) = called (handle now buf) (record { time = now; data-len = 0; ids = ids; room = room }) c
+outcome c (Start now ids room) = called (start now) (given-of now ids room) c
+outcome c (Handle now buf ids room) = called (handle now buf) (given-of now ids room) c
 outcome c (Send now peer body ids room) = called (send now peer body) (record { time = now; data-len = length body; ids = ids; room = room }) c
-outcome c (Poll now ids room) = called (poll now) (record { time = now; data-len = 0; ids = ids; room = room }) c
-outcome c TransportFailed = called transport-failed (record { time = 0; data-len = 0; ids = []; room = 0 }) c
-outcome c (Close ids room) = called close (record { time = 0; data-len = 0; ids = ids; room = room }) c
+outcome c (Poll now ids room) = called (poll now) (given-of now ids room) c
+outcome c TransportFailed = called transport-failed (given-of 0 [] 0) c
+outcome c (Close ids room) = called close (given-of 0 ids room) c
 
 -- an answer with the deadline of the client after it
 pub record Told : Type 0 where

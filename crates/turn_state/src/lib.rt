@@ -161,9 +161,9 @@ pub fn refused(client: Client, number: u32) -> Answer
     }
 }
 
-// An IP address as numbers, and back.
+// An IP address as numbers, which mean it, and back.
 pub fn host_of(ip: Ip) -> Host
-    ensures { λ r. ⌜ r ≡ «host-row» ip ⌝ }
+    ensures { λ r. ⌜ (r ≡ «host-row» ip) × (ip-in r ≡ ip) ⌝ }
 {
     match ip {
         Ip::V4(x) => Host {
@@ -189,7 +189,7 @@ pub fn ip_of(h: Host) -> Ip
 }
 
 pub fn place_of(a: Address) -> Place
-    ensures { λ r. ⌜ r ≡ «place-row» a ⌝ }
+    ensures { λ r. ⌜ (r ≡ «place-row» a) × (address-in r ≡ a) ⌝ }
 {
     let ip = a.ip;
     let host = host_of(ip);
@@ -210,9 +210,9 @@ pub fn address_of(p: Place) -> Address
     }
 }
 
-// A kind as numbers, and back.
+// A kind as numbers, which mean it, and back.
 pub fn asked_of(kind: Kind) -> Asked
-    ensures { λ r. ⌜ r ≡ «asked-row» kind ⌝ }
+    ensures { λ r. ⌜ (r ≡ «asked-row» kind) × (kind-in r ≡ kind) ⌝ }
 {
     let nowhere = Place {
         host: Host {

@@ -1,11 +1,12 @@
 -- A tidy table stays tidy once a tidy row is put last or replaces one, or one is taken out: over any rows, any room.
 use mathlib.Core.Path.{_≡_, sym, ap, _∙_}
 use mathlib.Core.List.{List, _∷_, _++_}
-use Prim.Native.Nat.{ℕ, zero, suc, _+_, _-_, _<_}
+use Prim.Native.Nat.{ℕ, zero, suc, _+_, _-_, _<_, min}
+use native.Mathlib.Nat.{not-suc-le-zero, le-of-suc-le-suc}
 use native.Mathlib.Numerals.{add-one}
 use native.Mathlib.Omega.{arith}
-use lib.ListN.{length, take, drop, set, replicate, length-drop, length-replicate}
-use lib.Seq.{take-suc-set, take-set-lt, take-take, drop-set-lt, drop-drop}
+use lib.ListN.{length, take, drop, set, getD, replicate, length-take, length-drop, length-replicate}
+use lib.Seq.{getD-take, take-suc-set, take-set-lt, take-take, drop-set-lt, drop-drop}
 use Rattle.turn_state.specs.View.{Each, no-rows, row, TidyTable}
 use Rattle.turn_tables.specs.Rows.{closed}
 use Rattle.turn_tables.proofs.Views.{closed-front, closed-back}
@@ -66,3 +67,14 @@ module _ {R : Type 0} {tidy : R → Type 0} where
               ∙ ap (λ (l : List R). blank ∷ l) (t .blanks)
               ∙ ap (λ (k : ℕ). replicate k blank) one;
         }
+
+-- a row of a tidy table is tidy
+pub each-at : {R : Type 0} {tidy : R → Type 0} {l : List R} (i : ℕ) (z : R) → Each tidy l → i < length l → tidy (getD l i z)
+each-at i z no-rows h = absurd (not-suc-le-zero h)
+each-at zero z (row t p) h = t
+each-at (suc i) z (row t p) h = each-at i z p (le-of-suc-le-suc h)
+
+pub tidy-row : {R : Type 0} {tidy : R → Type 0} (blank : R) (room len : ℕ) (rows : List R) (i : ℕ) (z : R) → length rows ≡ room → i < min len room
+    → TidyTable tidy blank room len rows → tidy (getD rows i z)
+tidy-row blank room len rows i z full h t =
+    rw (← getD-take len rows i z (omega arith)) (each-at i z (t .each) (rw length-take (omega arith)))

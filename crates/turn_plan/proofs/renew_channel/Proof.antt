@@ -26,7 +26,7 @@ returns c =
     let d = s .args .d in
     let full : length (d .channels .rows) ≡ 32 = simp length-map at (s .good .0 .1 .1 .1 .1 .0 .1 .1 .0 .1 .0 .1) in
     channel-renewed d (c .ask .result) (s .args .place) (c .before .before .before .before .before .before .before .before .address-of .result) (s .args .now) _ _ (c .before .before .put-channel .result) (c .before .asked-of .result) full
-    (c .before .before .before .before .before .before .before .before .address-of .ensures) (sym (c .before .before .before .before .before .before .before .find-channel .ensures) ∙ c .before .before .before .before .before .i .given .1) (c .before .before .put-channel .ensures) (c .before .asked-of .ensures) (c .ask .ensures)
+    (c .before .before .before .before .before .before .before .before .address-of .ensures) (sym (c .before .before .before .before .before .before .before .find-channel .ensures) ∙ c .before .before .before .before .before .i .given .1) (c .before .before .put-channel .ensures) (c .before .asked-of .ensures .0) (c .ask .ensures)
 
 returns-2 : tie.Need-returns-2
 returns-2 c =

@@ -12,7 +12,7 @@ returns c =
     let d = s .args .d in
     let full : length (d .permissions .rows) ≡ 32 = simp length-map at (s .good .0 .1 .1 .1 .0 .1 .1 .0 .1 .0 .1) in
     permission-renewed d (c .ask .result) (s .args .host) (c .before .before .before .before .before .before .before .before .ip-of .result) (c .before .before .before .host-of .result) _ (c .before .before .put-permission .result) (c .before .asked-of .result) full
-    (c .before .before .before .before .before .before .before .before .ip-of .ensures) (c .before .before .before .host-of .ensures) (sym (c .before .before .before .before .before .before .before .find-permission .ensures) ∙ c .before .before .before .before .before .i .given .1) (c .before .before .put-permission .ensures) (c .before .asked-of .ensures) (c .ask .ensures)
+    (c .before .before .before .before .before .before .before .before .ip-of .ensures) (c .before .before .before .host-of .ensures .0) (sym (c .before .before .before .before .before .before .before .find-permission .ensures) ∙ c .before .before .before .before .before .i .given .1) (c .before .before .put-permission .ensures) (c .before .asked-of .ensures .0) (c .ask .ensures)
 
 returns-2 : tie.Need-returns-2
 returns-2 c =

@@ -18,7 +18,7 @@ returns-2 c =
 returns-3 : tie.Need-returns-3
 returns-3 c =
     let s = c .before .before .before .before .before .before in
-    refresh-due (s .args .d) (c .ask .result) (s .args .now) (c .before .asked-of .result) (not-false _ (c .before .before .before .before .if1 .left)) (c .before .before .if2 .left) (c .before .asked-of .ensures) (c .ask .ensures)
+    refresh-due (s .args .d) (c .ask .result) (s .args .now) (c .before .asked-of .result) (not-false _ (c .before .before .before .before .if1 .left)) (c .before .before .if2 .left) (c .before .asked-of .ensures .0) (c .ask .ensures)
 
 pub renew-refresh-spec : {M : Type 1} → statement M
 renew-refresh-spec =

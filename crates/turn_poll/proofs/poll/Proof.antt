@@ -1,14 +1,14 @@
 -- `turn_poll::poll` meets its contract: refused for its time, nothing before the deadline, or what its plan comes to.
+use Rattle.turn_state.specs.Number.{given-of}
 use mathlib.Core.Path.{_≡_, refl, sym, _∙_}
 use native.Mathlib.Omega.{arith}
 use lib.ListN.{length, length-map}
 use Rattle.turn_state.specs.State.{begin}
 use Rattle.turn_state.specs.Source
 use Rattle.turn_state.specs.View.{view}
-use Rattle.turn_state.proofs.Answering.{refused-meets}
-use Rattle.turn_poll.specs.Concluding.{given-of}
+use Rattle.turn_state.proofs.Answering.{late-meets}
 use Rattle.turn_poll.proofs.Idle.{idle-meets, not-due}
-use Rattle.turn_poll.proofs.Deciding.{late, poll-plan}
+use Rattle.turn_poll.proofs.Deciding.{poll-plan}
 use borrow.Author.Needs.{needs}
 use Rattle.turn_poll.proofs.poll.Statement.{statement}
 use Rattle.turn_poll.proofs.poll.Tie as tie
@@ -20,7 +20,7 @@ returns c =
     let lent = a .ids .now in
     let run = Source.poll (a .now) (begin (view (a .client)) lent) in
     rw (c .refused .ensures)
-    (refused-meets (a .client) (given-of (a .now) lent (length (a .out .now))) run (a .out .now) 1 refl (late (a .now) (length (a .out .now)) lent (view (a .client)) run (c .before .if1 .taken)))
+    (late-meets (a .client) (given-of (a .now) lent (length (a .out .now))) run (a .out .now) (c .before .if1 .taken))
 
 returns-2 : tie.Need-returns-2
 returns-2 c =

@@ -1,13 +1,13 @@
 -- `turn_poll::start` meets its contract: refused for its time, or what asking for an allocation comes to.
+use Rattle.turn_state.specs.Number.{given-of}
 use mathlib.Core.Path.{_≡_, refl}
 use native.Mathlib.Omega.{arith}
 use lib.ListN.{length, length-map}
 use Rattle.turn_state.specs.State.{begin}
 use Rattle.turn_state.specs.View.{view}
-use Rattle.turn_state.proofs.Answering.{refused-meets}
-use Rattle.turn_poll.specs.Concluding.{given-of}
+use Rattle.turn_state.proofs.Answering.{late-meets}
 use Rattle.turn_state.specs.Source
-use Rattle.turn_poll.proofs.Deciding.{late, start-plan}
+use Rattle.turn_poll.proofs.Deciding.{start-plan}
 use borrow.Author.Needs.{needs}
 use Rattle.turn_poll.proofs.start.Statement.{statement}
 use Rattle.turn_poll.proofs.start.Tie as tie
@@ -19,7 +19,7 @@ returns c =
     let lent = a .ids .now in
     let run = Source.start (a .now) (begin (view (a .client)) lent) in
     rw (c .refused .ensures)
-    (refused-meets (a .client) (given-of (a .now) lent (length (a .out .now))) run (a .out .now) 1 refl (late (a .now) (length (a .out .now)) lent (view (a .client)) run (c .before .if1 .taken)))
+    (late-meets (a .client) (given-of (a .now) lent (length (a .out .now))) run (a .out .now) (c .before .if1 .taken))
 
 conclude-requires : tie.Need-conclude-requires
 conclude-requires c κs =

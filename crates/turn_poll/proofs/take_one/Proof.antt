@@ -34,7 +34,7 @@ returns-4 c =
     let a = s .args in
     let rows : length (a .s .table .rows) ≡ 64 = simp length-map at (s .good .0 .1 .1 .0 .1 .1 .0 .1 .0 .1) in
     put-nowhere (a .s) (a .asked) (c .before .before .before .before .asked-of .result) (a .ids .now) (c .before .before .before .before .before .before .id-of .result) (a .k) (a .next) (c .before .before .before .before .before .before .before .before .before .before .before .before .if1 .left) (s .pre .0) rows
-    (rw (← c .before .before .before .before .before .before .before .before .id-count .ensures) (c .before .before .before .before .before .before .before .if2 .left)) (c .before .before .before .before .before .before .id-of .ensures) (c .before .before .before .before .asked-of .ensures ∙ ap asked-of (c .before .before .before .before .before .kind-of .ensures)) (rw (c .before .before .before .before .before .before .id-of .ensures) (lent-twelve (a .ids .now) (a .k)))
+    (rw (← c .before .before .before .before .before .before .before .before .id-count .ensures) (c .before .before .before .before .before .before .before .if2 .left)) (c .before .before .before .before .before .before .id-of .ensures) (c .before .before .before .before .asked-of .ensures .0 ∙ ap asked-of (c .before .before .before .before .before .kind-of .ensures)) (rw (c .before .before .before .before .before .before .id-of .ensures) (lent-twelve (a .ids .now) (a .k)))
     _ (sym (c .before .before .before .find-request .ensures) ∙ c .before .enum-told .given .1) (c .if4 .taken) refl refl refl
 
 returns-5 : tie.Need-returns-5
@@ -43,7 +43,7 @@ returns-5 c =
     let a = s .args in
     let rows : length (a .s .table .rows) ≡ 64 = simp length-map at (s .good .0 .1 .1 .0 .1 .1 .0 .1 .0 .1) in
     put-over (a .s) (a .asked) (c .before .before .before .before .before .asked-of .result) (a .ids .now) (c .before .before .before .before .before .before .before .id-of .result) (a .k) (a .next) (c .before .before .before .before .before .before .before .before .before .before .before .before .before .if1 .left) (s .pre .0) rows
-    (rw (← c .before .before .before .before .before .before .before .before .before .id-count .ensures) (c .before .before .before .before .before .before .before .before .if2 .left)) (c .before .before .before .before .before .before .before .id-of .ensures) (c .before .before .before .before .before .asked-of .ensures ∙ ap asked-of (c .before .before .before .before .before .before .kind-of .ensures)) (rw (c .before .before .before .before .before .before .before .id-of .ensures) (lent-twelve (a .ids .now) (a .k)))
+    (rw (← c .before .before .before .before .before .before .before .before .before .id-count .ensures) (c .before .before .before .before .before .before .before .before .if2 .left)) (c .before .before .before .before .before .before .before .id-of .ensures) (c .before .before .before .before .before .asked-of .ensures .0 ∙ ap asked-of (c .before .before .before .before .before .before .kind-of .ensures)) (rw (c .before .before .before .before .before .before .before .id-of .ensures) (lent-twelve (a .ids .now) (a .k)))
     _ _ (sym (c .before .before .before .before .find-request .ensures) ∙ c .before .before .i .given .1) (c .put-request .ensures) refl refl
 
 returns-6 : tie.Need-returns-6
@@ -52,7 +52,7 @@ returns-6 c =
     let a = s .args in
     let rows : length (a .s .table .rows) ≡ 64 = simp length-map at (s .good .0 .1 .1 .0 .1 .1 .0 .1 .0 .1) in
     put-last (a .s) (a .asked) (c .before .before .before .before .before .asked-of .result) (a .ids .now) (c .before .before .before .before .before .before .before .id-of .result) (a .k) (a .next) (c .before .before .before .before .before .before .before .before .before .before .before .before .before .if1 .left) (s .pre .0) rows
-    (rw (← c .before .before .before .before .before .before .before .before .before .id-count .ensures) (c .before .before .before .before .before .before .before .before .if2 .left)) (c .before .before .before .before .before .before .before .id-of .ensures) (c .before .before .before .before .before .asked-of .ensures ∙ ap asked-of (c .before .before .before .before .before .before .kind-of .ensures)) (rw (c .before .before .before .before .before .before .before .id-of .ensures) (lent-twelve (a .ids .now) (a .k)))
+    (rw (← c .before .before .before .before .before .before .before .before .before .id-count .ensures) (c .before .before .before .before .before .before .before .before .if2 .left)) (c .before .before .before .before .before .before .before .id-of .ensures) (c .before .before .before .before .before .asked-of .ensures .0 ∙ ap asked-of (c .before .before .before .before .before .before .kind-of .ensures)) (rw (c .before .before .before .before .before .before .before .id-of .ensures) (lent-twelve (a .ids .now) (a .k)))
     _ (sym (c .before .before .before .before .find-request .ensures) ∙ c .before .before .enum-told .given .1) (omega (arith, c .before .if4 .left)) (c .push-request .ensures) refl refl
 
 pub take-one-spec : {M : Type 1} → statement M
