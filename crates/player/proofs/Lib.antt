@@ -1,0 +1,2 @@
+-- Where a field lies in the window of a tape.
+pub mod Place
