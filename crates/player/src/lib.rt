@@ -129,6 +129,7 @@ fn read_some(room: &mut [u8]) -> usize
     io::count(got, room)
 }
 
+// Plays a piece, whose bytes are the body. After the opening the username's room takes the ids.
 fn step(
     s: Session,
     piece: Piece,

@@ -160,18 +160,8 @@ fn request(r: Request, c: Credentials) {
     form::form(b"\n", NONE, b"");
 }
 
-// How many rows of a table to show.
-fn in_use(len: usize, room: usize) -> usize
-    ensures { λ r. ⌜ r ≤ room ⌝ }
-{
-    if len < room {
-        return len;
-    }
-    room
-}
-
 fn requests(t: Requests, c: Credentials) {
-    let n = in_use(t.len, 64);
+    let n = super::least(t.len, 64);
     let mut i = 0;
     while i < n {
         let r = t.rows[i];
@@ -181,7 +171,7 @@ fn requests(t: Requests, c: Credentials) {
 }
 
 fn permissions(t: Permissions) {
-    let n = in_use(t.len, 32);
+    let n = super::least(t.len, 32);
     let mut i = 0;
     while i < n {
         let p = t.rows[i];
@@ -193,7 +183,7 @@ fn permissions(t: Permissions) {
 }
 
 fn channels(t: Channels) {
-    let n = in_use(t.len, 32);
+    let n = super::least(t.len, 32);
     let mut i = 0;
     while i < n {
         let c = t.rows[i];
