@@ -11,7 +11,7 @@ use borrow.Author.Tests.{eqb-true, ne-eqb}
 use Rattle.stun_address.specs.declared.Address.{Address}
 use Rattle.turn_state.specs.Maps.{get, contains, insert, remove, if-let}
 use Rattle.turn_state.specs.State.{Chan}
-use Rattle.turn_state.specs.Source.{for-peer, of-number}
+use Rattle.turn_state.specs.Source.{for-peer, of-number, peer-of}
 use Rattle.turn.proofs.Steps.{never}
 
 -- numbers from `low` on, rising, below `next`
@@ -62,10 +62,6 @@ climb-found is c {low = low} (up d {l = l} h r) e = by (is d) e (λ k. climb-fou
     by : (b : Bool) → cond b (some d) (get is l) ≡ some c → (get is l ≡ some c → suc (d .num) ≤ c .num) → low ≤ c .num
     by true e rest = let k : d ≡ c = cc in rw (← k) h
     by false e rest = let z = rest e in omega arith
-
--- `by_num.get(num)`
-abbrev pub peer-of : ℕ → List Chan → Option Address
-peer-of num l = if-let (get (of-number num) l) (λ c. some (c .peer)) none
 
 peer-below : (num : ℕ) {next low : ℕ} {l : List Chan} → num < low → Climb next low l → peer-of num l ≡ none
 peer-below num h (top k) = refl

@@ -6,6 +6,8 @@ pub mod Steps
 pub mod Missed
 pub mod Handled
 pub mod Kept
+pub mod Calls
+pub mod Rows
 pub mod Channels
 pub mod Numbers
 pub mod Keys

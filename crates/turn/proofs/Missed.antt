@@ -339,15 +339,15 @@ failure-told (Permission ip) s h = h
 failure-told (ChannelBind peer num) s h = h
 
 -- nothing else in it tells anything
-request-ev : (now : ℕ) (kind : Kind) (msg : Message) (s : Run) → request now kind msg s .ev ≡ s .ev
+pub request-ev : (now : ℕ) (kind : Kind) (msg : Message) (s : Run) → request now kind msg s .ev ≡ s .ev
 unfolding request
 request-ev now kind msg s = inserted-ev _ s
 
-bind-ev : (now : ℕ) (peer : Address) (s : Run) → bind-channel now peer s .ev ≡ s .ev
+pub bind-ev : (now : ℕ) (peer : Address) (s : Run) → bind-channel now peer s .ev ≡ s .ev
 unfolding bind-channel
 bind-ev now peer s = if-there (λ r. r .ev) (get (for-peer peer) (s .self .chans)) _ s (s .ev) (λ c. request-ev now (ChannelBind peer (c .num)) _ (drew s)) refl
 
-permission-ev : (now : ℕ) (ip : Ip) (s : Run) → create-permission now ip s .ev ≡ s .ev
+pub permission-ev : (now : ℕ) (ip : Ip) (s : Run) → create-permission now ip s .ev ≡ s .ev
 unfolding create-permission insert-perm
 permission-ev now ip s = request-ev now (Permission ip) _ _ ∙ add-ev 32 (length (s .self .perms)) s (contains (for-ip ip) (s .self .perms))
 

@@ -2,9 +2,9 @@
 -- reused, and `by_num` (Channels) is told by the channels in every client that calls lead to.
 use mathlib.Core.Path.{_≡_, refl, ap, sym, subst, _∙_}
 use mathlib.Core.Bool.{Bool, true, false, cond}
-use mathlib.Core.List.{List, [], _∷_}
+use mathlib.Core.List.{List}
 use mathlib.Core.Option.{Option, none, some}
-use Prim.Native.Nat.{ℕ, _+_, _≤_}
+use Prim.Native.Nat.{ℕ, suc, _+_, _≤_}
 use native.Mathlib.Omega.{arith}
 use native.Mathlib.Numerals.{add-one}
 use lib.ListN.{length}
@@ -14,13 +14,14 @@ use Rattle.turn_state.specs.declared.Kind.the-variants.{ChannelBind}
 use Rattle.turn_state.specs.declared.Reason.{Reason}
 use Rattle.turn_state.specs.Maps.{get, contains, insert, if-let}
 use Rattle.turn_state.specs.State.{Chan, Turn, Run, begin, set-chans, set-next-num, on-self, drew}
-use Rattle.turn_state.specs.Source.{for-ip, for-peer, new, insert-chan, request, bind-channel, on-failure, update-chan, new-channel}
-use Rattle.turn_state.specs.Number.{Outcome, number, settled, open-number, opened}
+use Rattle.turn_state.specs.Source.{for-ip, for-peer, peer-of, insert-chan, request, bind-channel, on-failure, update-chan, new-channel}
+use Rattle.turn_state.specs.Number.{opened}
 use Rattle.turn_state.specs.Sequence.{Call, outcome, after}
 use Rattle.turn.proofs.Steps.{if-there, inserted, add-self}
-use Rattle.turn.proofs.Channels.{Climb, top, climb-new, climb-put, climb-remove, peer-of, by-num-insert, by-num-remove, by-num-missing, by-num-kept}
-use Rattle.turn.proofs.Kept.{Fact, Keeps, method-kept}
-use Rattle.turn.proofs.Refused.{given-of, run-of, outcome-called}
+use Rattle.turn.proofs.Channels.{Climb, top, climb-new, climb-put, climb-remove, by-num-insert, by-num-remove, by-num-missing, by-num-kept}
+use Rattle.turn.proofs.Calls.{call-keeps, sequence-keeps, opening-keeps}
+use Rattle.turn.proofs.Kept.{Fact, Anything, Keeps, time-of, datagram-of, method-kept}
+use Rattle.turn.proofs.Refused.{given-of}
 
 -- the numbers of a client whose next one is not below `floor`
 abbrev pub Numbered : ℕ → Turn → Type 0
@@ -32,55 +33,56 @@ inserted-chan c s = ap (set-chans (insert (for-peer (c .peer)) c (s .self .chans
 
 -- the steps keep them
 abbrev Fact-of : ℕ → Fact
-Fact-of floor ts ps cs n us l = (floor ≤ n) × (n ≤ 0x8000) × Climb n 0x4000 cs
+Fact-of floor c us l = Numbered floor c
 
-steps : (floor : ℕ) → Keeps (Fact-of floor)
-steps floor =
+steps : (floor now : ℕ) (buf : List ℕ) → Keeps now buf Anything (Fact-of floor)
+steps floor now buf =
     record {
-      drawn = λ ts ps cs n us l h. h;
-      asked = λ t ts ps cs n us l e h. h;
-      again = λ now tid t ts ps cs n us l e h. h;
-      dropped = λ tid ts ps cs n us l h. h;
-      cleared = λ ts ps cs n us l h. h;
-      permitted = λ p ts ps cs n us l h. h;
-      forbidden = λ ip ts ps cs n us l h. h;
-      numbered = λ c ts ps cs us l e m h. given c cs e m h;
-      written = λ peer c x ts ps cs n us l e xn xp h. (h .0, h .1, climb-put (for-peer peer) c x e xn (h .2));
-      unbound = λ peer ts ps cs n us l h. (h .0, h .1, climb-remove (for-peer peer) (h .2));
+      allocate = tt;
+      refresh = tt;
+      permission = λ ip. tt;
+      bind = λ peer x c us l e h. tt;
+      known = λ tid t c us l e h. tt;
+      drawn = λ c us l h. h;
+      asked = λ t c us l q e n w h. h;
+      again = λ tid t c us l e n h. h;
+      dropped = λ tid c us l h. h;
+      cleared = λ c us l h. h;
+      permitted = λ p c us l at h. h;
+      forbidden = λ ip c us l h. h;
+      numbered = λ x c us l e n m at h. given x (c .chans) (c .next-num) e n m h;
+      written = λ peer x y c us l e yn yp at h. (h .0, h .1, climb-put (for-peer peer) x y e yn (h .2));
+      unbound = λ peer c us l h. (h .0, h .1, climb-remove (for-peer peer) (h .2));
+      keyed = λ realm key c us l h. h;
+      nonced = λ nonce c us l h. h;
+      relayed = λ relay c us l h. h;
+      renewed = λ lifetime c us l q h. h;
+      renewing = λ c us l h. h;
+      closed = λ c us l h. h;
+      over = λ c us l h. h;
     }
   where
-    given : (c : Chan) (cs : List Chan) → contains (for-peer (c .peer)) cs ≡ false → c .num ≤ 0x7FFF → (floor ≤ c .num) × (c .num ≤ 0x8000) × Climb (c .num) 0x4000 cs
-        → (floor ≤ c .num + 1) × (c .num + 1 ≤ 0x8000) × Climb (c .num + 1) 0x4000 (insert (for-peer (c .peer)) c cs)
-    given c cs e m h = (
+    given : (x : Chan) (cs : List Chan) (n : ℕ) → contains (for-peer (x .peer)) cs ≡ false → x .num ≡ n → x .num ≤ 0x7FFF → (floor ≤ n) × (n ≤ 0x8000) × Climb n 0x4000 cs
+        → (floor ≤ n + 1) × (n + 1 ≤ 0x8000) × Climb (n + 1) 0x4000 (insert (for-peer (x .peer)) x cs)
+    given x cs n e i m h = (
       omega (arith, h .0),
       omega arith,
-      subst (λ (n : ℕ). Climb n 0x4000 (insert (for-peer (c .peer)) c cs)) (sym (add-one (c .num))) (climb-new (for-peer (c .peer)) c e (h .2)),
+      subst (λ (k : ℕ). Climb k 0x4000 (insert (for-peer (x .peer)) x cs)) (ap suc i ∙ sym (add-one n))
+          (climb-new (for-peer (x .peer)) x e (subst (λ (k : ℕ). Climb k 0x4000 cs) (sym i) (h .2))),
     )
 
 module _ (floor : ℕ) where
-  settled-kept : (n : ℕ) (before : Turn) (s : Run) → Numbered floor before → Numbered floor (s .self) → Numbered floor (settled n before s .client)
-  settled-kept n before s b h = by (eqb n 0)
-    where
-      by : (z : Bool) → Numbered floor ((cond {A = Outcome} z (record { refusal = 0; client = s .self; events = s .ev; packets = s .out }) (record { refusal = n; client = before; events = []; packets = [] })) .client)
-      by true = h
-      by false = b
-
   pub call-kept : (c : Turn) (call : Call) → Numbered floor c → Numbered floor (outcome c call .client)
   call-kept c call h =
-      subst (λ (o : Outcome). Numbered floor (o .client)) (sym (outcome-called c call))
-      (settled-kept (number (given-of call) c (run-of c call)) c (run-of c call) h (method-kept (Fact-of floor) (steps floor) call (begin c (given-of call .ids)) h))
+      call-keeps (Numbered floor) c call h
+      (λ z. method-kept Anything (Fact-of floor) call (begin c (given-of call .ids)) (steps floor (time-of call) (datagram-of call)) h)
 
   pub sequence-kept : (c : Turn) (calls : List Call) → Numbered floor c → Numbered floor (after c calls)
-  sequence-kept c [] h = h
-  sequence-kept c (call ∷ more) h = sequence-kept (outcome c call .client) more (call-kept c call h)
+  sequence-kept = sequence-keeps (Numbered floor) call-kept
 
 -- so it is from any opening on
 pub opened-numbered : (username password : List ℕ) (reliable : Bool) → Numbered 0x4000 (opened username password reliable)
-opened-numbered username password reliable = by (eqb (open-number username password) 0)
-  where
-    by : (z : Bool) → Numbered 0x4000 (cond z (new username password reliable) (new [] [] false))
-    by true = (omega arith, omega arith, top {low = 0x4000} (omega arith))
-    by false = (omega arith, omega arith, top {low = 0x4000} (omega arith))
+opened-numbered = opening-keeps (Numbered 0x4000) (λ username password reliable. (omega arith, omega arith, top {low = 0x4000} (omega arith)))
 
 pub numbered : (username password : List ℕ) (reliable : Bool) (calls : List Call) → Numbered 0x4000 (after (opened username password reliable) calls)
 numbered username password reliable calls = sequence-kept 0x4000 (opened username password reliable) calls (opened-numbered username password reliable)

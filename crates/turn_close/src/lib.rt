@@ -1,8 +1,8 @@
 // `close` of turn.rs: the allocation is given up by a Refresh of 0, which is sent once and not kept.
 ghost use lib.ListN.{length};
 ghost use mathlib.Core.Path.{_≡_};
-ghost use Rattle.turn_state.specs.Sequence.{outcome, Close};
-ghost use Rattle.turn_state.specs.View.{view, Meets, refused-answer};
+ghost use Rattle.turn_state.specs.Sequence.{Close};
+ghost use Rattle.turn_state.specs.View.{Allows, refused-answer};
 use turn_ids::id_of;
 use turn_ids::verdict;
 use turn_open::no_requests;
@@ -16,7 +16,7 @@ use turn_state::asked_of;
 use turn_state::refused;
 
 pub fn close(client: Client, ids: &[u8], out: &mut [u8]) -> Answer
-    ensures { λ r. ⌜ Meets client (outcome (view client) (Close (ids .entry .now) (length (out .entry .now)))) (out .entry .now) r (out .exit .now) ⌝ }
+    ensures { λ r. ⌜ Allows client (Close (ids .entry .now) (length (out .entry .now))) (out .entry .now) r (out .exit .now) ⌝ }
 {
     if !client.has_relay {
         return idle(client);

@@ -10,8 +10,8 @@ ghost use Rattle.stun_frame.specs.declared.classes.Class.the-variants.{Success 
 ghost use Rattle.stun_walk.specs.Source.{error-code-of, lifetime-of};
 ghost use Rattle.turn_state.specs.Source.{under-id, tid-of, code-or-0, exempt, is-answer, passed, granted-or, refresh-time, bound-at, update-chan, on-success, on-failure};
 ghost use Rattle.turn_state.specs.Number.{given-of, called};
-ghost use Rattle.turn_state.specs.Sequence.{outcome, Handle};
-ghost use Rattle.turn_state.specs.View.{view, held, kind-in, chan-in, txns-in, Meets};
+ghost use Rattle.turn_state.specs.Sequence.{Handle};
+ghost use Rattle.turn_state.specs.View.{view, held, kind-in, chan-in, txns-in, Meets, Allows};
 ghost use Rattle.turn_tables.specs.declared.Position.the-variants.{At as «PlaceAt»};
 ghost use Rattle.turn_tables.specs.Rows.{position};
 ghost use Rattle.turn_handle.specs.Handling.{said-of, heard, indication, lacking, Quiet, resolved, answered-by, part-of};
@@ -60,7 +60,7 @@ use turn_tables::remove_request;
 
 // Takes a datagram or a frame from the server.
 pub fn handle(client: Client, now: u64, datagram: &[u8], ids: &[u8], out: &mut [u8]) -> Answer
-    ensures { λ r. ⌜ Meets client (outcome (view client) (Handle now (datagram .entry .now) (ids .entry .now) (length (out .entry .now)))) (out .entry .now) r (out .exit .now) ⌝ }
+    ensures { λ r. ⌜ Allows client (Handle now (datagram .entry .now) (ids .entry .now) (length (out .entry .now))) (out .entry .now) r (out .exit .now) ⌝ }
 {
     if 9007199254740991 < now {
         return refused(client, 1);

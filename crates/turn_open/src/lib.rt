@@ -6,8 +6,8 @@ ghost use Prim.Native.Nat.{_≤_};
 ghost use lib.ListN.{length};
 ghost use Rattle.stun_text.specs.Lossy.{text-of};
 ghost use Rattle.turn_state.specs.Number.{open-number};
-ghost use Rattle.turn_state.specs.Sequence.{outcome, TransportFailed};
-ghost use Rattle.turn_state.specs.View.{view, nowhere as «no-place», no-text as «blank-text», Meets};
+ghost use Rattle.turn_state.specs.Sequence.{TransportFailed};
+ghost use Rattle.turn_state.specs.View.{nowhere as «no-place», no-text as «blank-text», Allows};
 ghost use Rattle.turn_open.specs.Fresh.{blank-requests, blank-permissions, blank-channels, fresh-client};
 ghost use Rattle.turn_open.specs.Opening.{Opening};
 use stun_text::Text;
@@ -56,7 +56,7 @@ pub fn open(username: &[u8], password: &[u8], reliable: bool) -> Opened
 
 // The transport failed: nothing is pending any more, and unless an allocation was told of, its failure is.
 pub fn lost(client: Client) -> Answer
-    ensures { λ r. ⌜ Meets client (outcome (view client) TransportFailed) [] r [] ⌝ }
+    ensures { λ r. ⌜ Allows client TransportFailed [] r [] ⌝ }
 {
     let mut next = client;
     let blank = no_requests();

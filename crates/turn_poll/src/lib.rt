@@ -4,10 +4,10 @@ ghost use mathlib.Core.Path.{_≡_};
 ghost use mathlib.Core.Bool.{false, cond, not};
 ghost use Prim.Native.Nat.{_+_, _≤_, min};
 ghost use lib.ListN.{length, replicate};
-ghost use Rattle.turn_state.specs.Sequence.{outcome, Start, Poll};
+ghost use Rattle.turn_state.specs.Sequence.{Start, Poll};
 ghost use Rattle.turn_state.specs.Maps.{remove};
 ghost use Rattle.turn_state.specs.Source.{is-due, next-deadline, under-id};
-ghost use Rattle.turn_state.specs.View.{view, told, txns-in, perms-in, TidyRequests, TidyPermissions, Meets};
+ghost use Rattle.turn_state.specs.View.{view, told, txns-in, perms-in, TidyRequests, TidyPermissions, Allows};
 ghost use Rattle.turn_plan.specs.Plan.{granting};
 ghost use Rattle.turn_plan.specs.Follows.{perm-full};
 ghost use Rattle.turn_poll.specs.Taking.{Took, TookAll};
@@ -218,7 +218,7 @@ fn conclude(client: Client, d: Draft, now: u64, ids: &[u8], out: &mut [u8]) -> A
 
 // Starts the allocation.
 pub fn start(client: Client, now: u64, ids: &[u8], out: &mut [u8]) -> Answer
-    ensures { λ r. ⌜ Meets client (outcome (view client) (Start now (ids .entry .now) (length (out .entry .now)))) (out .entry .now) r (out .exit .now) ⌝ }
+    ensures { λ r. ⌜ Allows client (Start now (ids .entry .now) (length (out .entry .now))) (out .entry .now) r (out .exit .now) ⌝ }
 {
     if 9007199254740991 < now {
         return refused(client, 1);
@@ -229,7 +229,7 @@ pub fn start(client: Client, now: u64, ids: &[u8], out: &mut [u8]) -> Answer
 
 // Repeats requests, and refreshes allocation, permissions and channels.
 pub fn poll(client: Client, now: u64, ids: &[u8], out: &mut [u8]) -> Answer
-    ensures { λ r. ⌜ Meets client (outcome (view client) (Poll now (ids .entry .now) (length (out .entry .now)))) (out .entry .now) r (out .exit .now) ⌝ }
+    ensures { λ r. ⌜ Allows client (Poll now (ids .entry .now) (length (out .entry .now))) (out .entry .now) r (out .exit .now) ⌝ }
 {
     if 9007199254740991 < now {
         return refused(client, 1);

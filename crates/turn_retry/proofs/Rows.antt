@@ -20,13 +20,11 @@ use Rattle.turn_state.specs.declared.Kind.the-variants.{Allocate, Refresh, Perm
 use Rattle.turn_state.specs.declared.Host.{Host}
 use Rattle.turn_state.specs.declared.Asked.{Asked}
 use Rattle.turn_state.specs.declared.Request.{Request}
-use Rattle.turn_state.specs.View.{kind-in, ip-in, attrs-of, is-v6, shows-under, either, Each, no-rows, row, TidyTable, TidyRequest}
+use Rattle.turn_state.specs.View.{kind-in, ip-in, attrs-of, is-v6, shows-under, either, Each, no-rows, row, TidyTable, TidyRequest, txn-in, txns-in, no-request, TidyRequests, Sized, Twelve}
 use Rattle.turn_state.specs.declared.Client.{Client}
 use Rattle.turn_state.specs.declared.Requests.{Requests}
 use Rattle.turn_state.specs.Maps.{get, remove}
 use Rattle.turn_state.specs.Source.{under-id}
-use Rattle.turn_state.specs.View.{txn-in, txns-in, no-request, TidyRequests}
-use Rattle.turn_state.proofs.Same.{Sized, Twelve}
 use Rattle.turn_tables.specs.declared.Position.the-variants.{At}
 use Rattle.turn_tables.specs.Rows.{position}
 use Rattle.turn_tables.specs.Tables.{removed-request}

@@ -5,9 +5,9 @@ ghost use mathlib.Core.Bool.{Bool, cond, _&&_, _||_};
 ghost use mathlib.Core.List.{[], _∷_, _++_};
 ghost use Prim.Native.Nat.{_+_, _≤_};
 ghost use lib.ListN.{length, take, drop};
-ghost use Rattle.turn_state.specs.Sequence.{outcome, Send};
+ghost use Rattle.turn_state.specs.Sequence.{Send};
 ghost use Rattle.turn_state.specs.Number.{framed};
-ghost use Rattle.turn_state.specs.View.{host-of as «host-row», place-of as «place-row», perms-in, chans-in, view, Meets};
+ghost use Rattle.turn_state.specs.View.{host-of as «host-row», place-of as «place-row», perms-in, chans-in, Allows};
 ghost use Rattle.turn_tables.specs.Tables.{pushed-permission, pushed-channel};
 ghost use Rattle.turn_packet.specs.Source.{packet-of};
 ghost use Rattle.turn_plan.specs.Draft.{inserted};
@@ -353,7 +353,7 @@ pub fn send(
     ids: &[u8],
     out: &mut [u8],
 ) -> Answer
-    ensures { λ r. ⌜ Meets client (outcome (view client) (Send now peer («data» .entry .now) (ids .entry .now) (length (out .entry .now)))) (out .entry .now) r (out .exit .now) ⌝ }
+    ensures { λ r. ⌜ Allows client (Send now peer («data» .entry .now) (ids .entry .now) (length (out .entry .now))) (out .entry .now) r (out .exit .now) ⌝ }
 {
     if 9007199254740991 < now {
         return refused(client, 1);

@@ -39,7 +39,7 @@ use Rattle.turn_state.proofs.Client.{the-type as the-client}
 use Rattle.turn_state.proofs.Request.{the-type as the-request}
 use Rattle.turn_state.specs.State.{Perm, Chan}
 use Rattle.turn_state.specs.Number.{Outcome}
-use Rattle.turn_state.specs.View.{host-of, ip-in, place-of, address-in, nowhere, asked-of, kind-in, text-in, attrs-of, txn-in, perm-in, chan-in, txns-in, perms-in, chans-in, held, either, absent, view, no-text, shows-under, is-v6, Each, no-rows, row, TidyText, TidyRequest, TidyPermission, TidyChannel, TidyRequests, TidyPermissions, TidyChannels, TidyCredentials, Tidy, Meets}
+use Rattle.turn_state.specs.View.{host-of, ip-in, place-of, address-in, nowhere, asked-of, kind-in, text-in, attrs-of, txn-in, perm-in, chan-in, txns-in, perms-in, chans-in, held, either, absent, view, no-text, shows-under, is-v6, Each, no-rows, row, TidyText, TidyRequest, TidyPermission, TidyChannel, TidyRequests, TidyPermissions, TidyChannels, TidyCredentials, Tidy, Meets, Twelve, Sized}
 
 -- lists of a room, blank after a length
 module _ {A : Type 0} (room n m : ℕ) (l k : List A) (fl : length l ≡ room) (fk : length k ≡ room) (hn : n ≤ room) (hm : m ≤ room) (e : take n l ≡ take m k) where
@@ -144,10 +144,6 @@ module _ (id u v : List ℕ) (lu : length u ≡ 12) (lv : length v ≡ 12) where
   same-under (Permit ip) p q e = under-ip ip 0 p q (ap first-value e)
   same-under (ChannelBind peer number) p q e = under-ip (peer .ip) (peer .port) p q (ap (λ (l : List Attribute). first-value (drop 1 l)) e)
 
--- the id under which a request's peer is encoded has 12 bytes
-abbrev pub Twelve : Request → Type 0
-Twelve r = length (r .under) ≡ 12
-
 same-request : (r s : Request) → TidyRequest r × Twelve r → TidyRequest s × Twelve s → txn-in r ≡ txn-in s → r ≡ s
 same-request r s (x, lr) (y, ls) e =
     let id : s .id ≡ r .id = λ i. sym e i .msg .tid in
@@ -190,18 +186,6 @@ same-requests t u lt lu it iu x y e =
     same-table txn-in same-request _ 64 (t .len) (u .len) (t .rows) (u .rows) lt lu (x .fits) (y .fits) (x .blanks) (y .blanks)
     (each-both (x .each) (each-take (t .len) it)) (each-both (y .each) (each-take (u .len) iu)) e in
     λ i. record { rows = s .0 i; len = s .1 i }
-
--- of the lengths that the types of a client's arrays give, those that are used: its texts' bytes, its tables' rows, and `under` in each
--- request's row
-pub record Sized (c : Client) : Type 0 where
-  pub username : length (c .credentials .username .bytes) ≡ 763
-  pub realm : length (c .credentials .realm .bytes) ≡ 763
-  pub nonce : length (c .credentials .nonce .bytes) ≡ 763
-  pub password : length (c .password .bytes) ≡ 763
-  pub requests : length (c .requests .rows) ≡ 64
-  pub permissions : length (c .permissions .rows) ≡ 32
-  pub channels : length (c .channels .rows) ≡ 32
-  pub unders : Each Twelve (c .requests .rows)
 
 row-twelve : (r : Request) (vs : List Val) → Is (typed-row the-request) r vs → Twelve r
 row-twelve r vs g = sym (length-map (r .under) _) ∙ g .1 .1 .1 .0 .1 .0 .1

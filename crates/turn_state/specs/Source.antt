@@ -84,6 +84,10 @@ for-peer peer c = same-address (c .peer) peer
 abbrev pub of-number : ℕ → Chan → Bool
 of-number num c = eqb (c .num) num
 
+-- by_num.get(&num), as the channels tell it: the peer of the channel that has the number
+abbrev pub peer-of : ℕ → List Chan → Option Address
+peer-of num l = if-let (get (of-number num) l) (λ c. some (c .peer)) none
+
 -- the maps' insert, where a record that is added is reported with what its table holds at that moment
 abbrev pub add : Bool → ℕ → ℕ → Run → Run
 add true room held s = s

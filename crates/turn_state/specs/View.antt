@@ -33,6 +33,7 @@ use Rattle.turn_state.specs.declared.Answer.{Answer}
 use Rattle.turn_state.specs.State.{Message, Txn, Perm, Chan, Turn}
 use Rattle.turn_state.specs.Source.{attr, SOFTWARE, refresh-message}
 use Rattle.turn_state.specs.Number.{Outcome, framed}
+use Rattle.turn_state.specs.Sequence.{Call, outcome}
 
 -- addresses and kinds as numbers, and back
 abbrev pub host-of : Ip → Host
@@ -243,3 +244,24 @@ pub record Meets (before : Client) (due : Outcome) (out : List ℕ) (r : Answer)
   pub packets : r .packets ≡ length (due .packets)
   pub len : r .len ≡ length (framed (due .packets))
   pub output : after ≡ framed (due .packets) ++ drop (length (framed (due .packets))) out
+
+-- what the contract of a call allows: `client` is called with the output `out`, `r` is the answer, and `after` is what `out` holds then.
+-- Each call ensures it under this name, and so what is said of it (crates/demands) is said of the code.
+abbrev pub Allows : Client → Call → List ℕ → Answer → List ℕ → Type 0
+Allows client call out r after = Meets client (outcome (view client) call) out r after
+
+-- the id under which a request's peer is encoded has 12 bytes
+abbrev pub Twelve : Request → Type 0
+Twelve r = length (r .under) ≡ 12
+
+-- of the lengths that the types of a client's arrays give, those that are used: its texts' bytes, its tables' rows, and `under` in each
+-- request's row
+pub record Sized (c : Client) : Type 0 where
+  pub username : length (c .credentials .username .bytes) ≡ 763
+  pub realm : length (c .credentials .realm .bytes) ≡ 763
+  pub nonce : length (c .credentials .nonce .bytes) ≡ 763
+  pub password : length (c .password .bytes) ≡ 763
+  pub requests : length (c .requests .rows) ≡ 64
+  pub permissions : length (c .permissions .rows) ≡ 32
+  pub channels : length (c .channels .rows) ≡ 32
+  pub unders : Each Twelve (c .requests .rows)

@@ -1,0 +1,2 @@
+-- Sessions under two passwords, computed (Pairs).
+pub mod Pairs
