@@ -1,5 +1,6 @@
 -- What the codec's parts say together.
 pub mod Trip
+pub mod Signed
 pub mod Check
 pub mod Lookups
 pub mod Lent

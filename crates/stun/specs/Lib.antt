@@ -1,2 +1,3 @@
 -- What the codec's parts are shown to mean together.
 pub mod Rfc
+pub mod Signed
