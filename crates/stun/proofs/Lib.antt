@@ -2,6 +2,7 @@
 pub mod Trip
 pub mod Signed
 pub mod Check
+pub mod Reading
 pub mod Lookups
 pub mod Lent
 pub mod Cases
