@@ -4,6 +4,7 @@ pub mod Signed
 pub mod Check
 pub mod Reading
 pub mod Lookups
+pub mod Exact
 pub mod Lent
 pub mod Cases
 pub mod Published
