@@ -5,6 +5,7 @@ pub mod Check
 pub mod Reading
 pub mod Lookups
 pub mod Exact
+pub mod Frames
 pub mod Lent
 pub mod Cases
 pub mod Published
