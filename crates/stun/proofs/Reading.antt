@@ -298,15 +298,20 @@ module _ (b : List ℕ) (bytes : Bytes b) where
     -- the attribute at p, and those behind it
     one-more : (p : ℕ) → p + 4 ≤ 20 + field-at b 2 → (room : p + 4 + field-at b (p + 2) ≤ length b)
         → (to p room ≤ length b → Derived (left-at (to p room)) (drop (to p room) b)) → Derived (left-at p) (drop p b)
-    one-more p g room rest =
-        let r : Derived (left-at p - (4 + length (part-at p .value) + length (part-at p .pad))) (drop (to p room) b) = behind in
-        (part-at p ∷ r .0, subst (λ (l : List ℕ). Attributes (left-at p) l (part-at p ∷ r .0)) (stands p room) (next (omega arith) (attribute p room) (r .1)))
+    one-more p g room rest = joined behind
       where
-        behind : Derived (left-at p - (4 + length (part-at p .value) + length (part-at p .pad))) (drop (to p room) b)
+        Behind : Type 0
+        Behind = Derived (left-at p - (4 + length (part-at p .value) + length (part-at p .pad))) (drop (to p room) b)
+
+        behind : Behind
         behind = elim (decLe (to p room) (length b)) [
           | yes l ↦ subst (λ (k : ℕ). Derived k (drop (to p room) b)) (omega (arith, valued p room, pads p room)) (rest l)
           | no l ↦ none _ _ (omega (arith, lt-of-not-le l, valued p room, pads p room))
         ]
+
+        joined : Behind → Derived (left-at p) (drop p b)
+        joined (more, d) =
+            (part-at p ∷ more, subst (λ (l : List ℕ). Attributes (left-at p) l (part-at p ∷ more)) (stands p room) (next (omega arith) (attribute p room) d))
 
     derived : (n p : ℕ) → inside b (attributes-from n b p) ≡ true → length b ≤ p + n → Derived (left-at p) (drop p b)
     unfolding attributes-from
@@ -346,6 +351,14 @@ stun-head b e =
       cookie = λ i. eqb-true (getD b 4 0) 0x21 (f .0) i ∷ eqb-true (getD b 5 0) 0x12 (f .1) i ∷ eqb-true (getD b 6 0) 0xA4 (d .1) i ∷ eqb-true (getD b 7 0) 0x42 (c .1) i ∷ [];
     }
 
+headed-by : (b : List ℕ) → Bytes b → Head b
+    → b ≡ two (field-at b 0) ++ (two (field-at b 2) ++ ((0x21 ∷ 0x12 ∷ 0xA4 ∷ 0x42 ∷ []) ++ (take 12 (drop 8 b) ++ drop 20 b)))
+headed-by b bytes h =
+    let magic : drop 4 b ≡ (0x21 ∷ 0x12 ∷ 0xA4 ∷ 0x42 ∷ []) ++ drop 8 b =
+    parted b 4 4 ∙ ap (λ (l : List ℕ). l ++ drop 8 b) (take-four b 4 (omega (arith, h .long)) ∙ h .cookie) in
+    headed b bytes 0 (omega (arith, h .long)) ∙ ap (λ (l : List ℕ). two (field-at b 0) ++ (two (field-at b 2) ++ l)) magic
+    ∙ ap (λ (l : List ℕ). two (field-at b 0) ++ (two (field-at b 2) ++ ((0x21 ∷ 0x12 ∷ 0xA4 ∷ 0x42 ∷ []) ++ l))) (parted b 8 12)
+
 -- and nothing else is read
 pub reads-readable : (b : List ℕ) → Bytes b → readable b ≡ true → (typ : ℕ) × (id : List ℕ) × (parts : List Part) × Readable b typ id parts
 unfolding readable
@@ -355,9 +368,6 @@ reads-readable b bytes e =
     let h : Head b = stun-head b (q .0) in
     let fits : 20 + field-at b 2 ≤ length b = leb-true (20 + field-at b 2) (length b) (q .1) in
     let d = derived b bytes fits (length b) 20 (r .1) (omega arith) in
-    let front : b ≡ two (field-at b 0) ++ (two (field-at b 2) ++ drop 4 b) = headed b bytes 0 (omega arith) in
-    let magic : drop 4 b ≡ (0x21 ∷ 0x12 ∷ 0xA4 ∷ 0x42 ∷ []) ++ drop 8 b =
-    parted b 4 4 ∙ ap (λ (l : List ℕ). l ++ drop 8 b) (take-four b 4 (omega arith) ∙ h .cookie) in
     let t : getD b 0 0 / 64 % 4 * 64 ≡ 0 = sym (and-high (getD b 0 0) 2 6) ∙ h .top in
     let zeros : getD b 0 0 < 64 = small (getD b 0 0) (byte b bytes 0) t in (
       field-at b 0,
@@ -370,7 +380,7 @@ reads-readable b bytes e =
         ided = length-take-le 12 (drop 8 b) (omega (arith, length-drop 8 b));
         counted = omega (arith, byte b bytes 2, byte b bytes 3);
         there = omega (arith, length-drop 20 b);
-        header = front ∙ ap (λ (l : List ℕ). two (field-at b 0) ++ (two (field-at b 2) ++ l)) (magic ∙ ap (λ (l : List ℕ). (0x21 ∷ 0x12 ∷ 0xA4 ∷ 0x42 ∷ []) ++ l) (parted b 8 12));
+        header = headed-by b bytes h;
         attributes = subst (λ (k : ℕ). Attributes k (drop 20 b) (d .0)) (omega arith) (d .1);
       },
     )

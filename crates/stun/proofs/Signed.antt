@@ -56,6 +56,10 @@ record Passed (b : List ℕ) (n from to : ℕ) : Type 0 where
   enough : n + from ≤ fuel + to
   finds : integrity-from n b from ≡ integrity-from fuel b to
 
+onward : {b : List ℕ} {n from next end to : ℕ} → integrity-from (suc n) b from ≡ integrity-from n b next → from < next → Passed b n next end → end ≡ to → Passed b (suc n) from to
+onward {b} step lt r e =
+    record { fuel = r .fuel; enough = omega (arith, r .enough); finds = step ∙ r .finds ∙ ap (integrity-from (r .fuel) b) e }
+
 -- where the attributes between them are no MESSAGE-INTEGRITY
 passed : (before : List Part) (b pre after : List ℕ) (n : ℕ) → value-of 8 before ≡ nothing → AllFormed before → b ≡ pre ++ (body before ++ after)
     → length pre + length (body before) ≤ 20 + u16-at b 2 → length (body before) ≤ n → Passed b n (length pre) (length pre + length (body before))
@@ -72,9 +76,9 @@ passed (x ∷ before) b pre after (suc n) u f is end enough =
     let q : length next ≡ length pre + 4 + padded (length (x .value)) = length-past b pre after x before (f .0) is in
     let step : integrity-from (suc n) b (length pre) ≡ integrity-from n b (length next) =
     rw (go, lies, typ-at b pre after x before (f .0) is, m .0, len-at b pre after x before (f .0) is, q) in
-    let r = passed before b next after n (m .1) (f .1) (past-is b pre after x before (f .0) is) (omega (arith, f .0)) (omega arith) in
-    let to : length next + length (body before) ≡ length pre + length (body (x ∷ before)) = omega (arith, f .0) in
-    record { fuel = r .fuel; enough = omega (arith, r .enough); finds = step ∙ r .finds ∙ ap (integrity-from (r .fuel) b) to }
+    onward step (omega arith)
+    (passed before b next after n (m .1) (f .1) (past-is b pre after x before (f .0) is) (omega (arith, f .0)) (omega arith))
+    (omega (arith, f .0))
 
 module _ (typ : ℕ) (id rest : List ℕ) (parts : List Part) (good : StunParts typ id (body parts)) (formed : AllFormed parts) where
   abbrev bytes-of : List ℕ

@@ -20,8 +20,7 @@ pub record Signed (key m : List ℕ) : Type 0 where
   -- `mine` is its first MESSAGE-INTEGRITY
   pub first : value-of 0x0008 before ≡ nothing
   pub typed : mine .typ ≡ 0x0008
-  -- "Since it uses the SHA-1 hash, the HMAC will be 20 bytes"
+  -- its value is an HMAC-SHA1, so 20 bytes
   pub twenty : length (mine .value) ≡ 20
-  -- "The text used as input to HMAC is the STUN message, up to and including the attribute preceding the MESSAGE-INTEGRITY attribute. The
-  -- Length field of the STUN message header is adjusted to point to the end of the MESSAGE-INTEGRITY attribute."
+  -- under the key, of the message up to and including the attribute before `mine`, where the header's length points to the end of `mine`
   pub code : mine .value ≡ hmac sha1 key (up-to typ id (body before) (body (mine ∷ [])))
