@@ -397,17 +397,17 @@ no-multiple : readable (behind 1 (0x00 ∷ [])) ≡ true
 unfolding readable attributes-from is-stun
 no-multiple = refl
 
-no-padding : looked (behind 5 (0x00 ∷ 0x06 ∷ 0x00 ∷ 0x01 ∷ 0x41 ∷ [])) (get-of (behind 5 (0x00 ∷ 0x06 ∷ 0x00 ∷ 0x01 ∷ 0x41 ∷ [])) 6) ≡ just (0x41 ∷ [])
+abbrev one : List ℕ
+one = 0x00 ∷ 0x06 ∷ 0x00 ∷ 0x01 ∷ 0x41 ∷ []
+
+no-padding : looked (behind 5 one) (get-of (behind 5 one) 6) ≡ just (0x41 ∷ [])
 unfolding get-of readable attributes-from is-stun
 no-padding = refl
 
-abbrev past-count : List ℕ
-past-count = behind 4 (0x00 ∷ 0x06 ∷ 0x00 ∷ 0x04 ∷ 0x41 ∷ 0x42 ∷ 0x43 ∷ 0x44 ∷ [])
-
-value-past : looked past-count (get-of past-count 6) ≡ just (0x41 ∷ 0x42 ∷ 0x43 ∷ 0x44 ∷ [])
+value-past : looked (behind 4 one) (get-of (behind 4 one) 6) ≡ just (0x41 ∷ [])
 unfolding get-of readable attributes-from is-stun
 value-past = refl
 
-value-cut : readable (take 27 past-count) ≡ false
+value-cut : readable (behind 4 (take 4 one)) ≡ false
 unfolding readable attributes-from is-stun
 value-cut = refl

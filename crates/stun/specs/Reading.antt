@@ -33,7 +33,7 @@ pub data Attributes : ℕ → List ℕ → List Part → Type 0 where
 --   bytes after the message: count 0, then 00
 --   a count that is no multiple of four: count 1, then 00
 --   padding that is missing: count 5, then 00 06 00 01 41
---   a value past the count's end: count 4, then 00 06 00 04 41 42 43 44
+--   a value past the count's end: count 4, then 00 06 00 01 41
 pub record Readable (b : List ℕ) (typ : ℕ) (id : List ℕ) (parts : List Part) : Type 0 where
   pub count : ℕ
   pub bytes : List ℕ
@@ -44,8 +44,8 @@ pub record Readable (b : List ℕ) (typ : ℕ) (id : List ℕ) (parts : List Par
   pub header : b ≡ two typ ++ (two count ++ ((0x21 ∷ 0x12 ∷ 0xA4 ∷ 0x42 ∷ []) ++ (id ++ bytes)))
   pub attributes : Attributes count bytes parts
 
--- section 14.8: 4 bytes or more, the class in the third byte's low 3 bits and the number in the fourth. The RFC has classes from 3 to 6 and
--- numbers up to 99 only: 00 00 03 65 is read as 401.
+-- RFC 8489 section 14.8: 4 bytes or more, the class in the third byte's low 3 bits and the number in the fourth. The RFC has classes from 3
+-- to 6 and numbers up to 99 only: 00 00 03 65 is read as 401.
 abbrev pub CodeIs : ℕ → List ℕ → Type 0
 CodeIs code value = (4 ≤ length value) × (code ≡ getD value 2 0 % 8 * 100 + getD value 3 0)
 
