@@ -9,12 +9,13 @@ use lib.ListN.{length, take, drop, length-append}
 use lib.Seq.{take-at}
 use Rattle.stun_frame.specs.declared.Written.the-variants.{Bytes}
 use Rattle.stun_check.specs.Source.{verified}
+use Rattle.stun_walk.specs.Rfc.{nothing, value-of}
 use Rattle.stun_walk.proofs.Message.{Reads}
 use Rattle.stun_write.specs.Source.{Attribute, key-of, attributes, encoded, sealed-body, sealed-size, integrity, fingerprint, Encoded}
 use Rattle.stun_write.proofs.Lengths.{length-integrity, length-fingerprint, length-encoded}
 use Rattle.stun_write.proofs.Answers.{was-written}
 use Rattle.stun.proofs.Trip.{AllFit, Writable, parts, sent, trip}
-use Rattle.stun.proofs.Check.{Unsigned, passes}
+use Rattle.stun.proofs.Check.{passes}
 
 module _ (typ : ℕ) (id : List ℕ) (attrs : List Attribute) (key : List ℕ) (f : Bool) (top : typ < 2 ^ 14) (ided : length id ≡ 12) (fit : AllFit attrs)
     (out after : List ℕ) (n : ℕ) where
@@ -33,7 +34,7 @@ module _ (typ : ℕ) (id : List ℕ) (attrs : List Attribute) (key : List ℕ) (
       subst (λ (m : List ℕ). Reads m typ id (parts typ id attrs (key-of sign key) f (writable sign w))) (sym (was-written w .2))
       (trip typ id attrs (key-of sign key) f (writable sign w) (drop n out))
 
-  pub left-passes : Encoded out typ id (attributes attrs) key true f (Bytes n) after → Unsigned (map sent attrs) → verified (take n after) key ≡ true
+  pub left-passes : Encoded out typ id (attributes attrs) key true f (Bytes n) after → value-of 0x0008 (map sent attrs) ≡ nothing → verified (take n after) key ≡ true
   left-passes w u =
       let m : List ℕ = encoded typ id (attributes attrs) (key-of true key) f in
       let l : length m ≡ n = length-encoded typ id (attributes attrs) key true f ided ∙ sym (was-written w .1) in

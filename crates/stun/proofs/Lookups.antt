@@ -27,19 +27,19 @@ use Rattle.stun_walk.proofs.Message.{Reads, looked, code-reads, lifetime-reads}
 use Rattle.stun.specs.Rfc.{error-value, ErrorCode, lifetime-value}
 
 -- what is said of a value that may not be there
-abbrev meant-address : List ℕ → Maybe → Peer
+abbrev pub meant-address : List ℕ → Maybe → Peer
 meant-address id nothing = NoPeer
 meant-address id (just v) = decode-xor-addr v id
 
-abbrev meant-text : Maybe → Str
+abbrev pub meant-text : Maybe → Str
 meant-text nothing = record { found = false; read = lossy-of [] }
 meant-text (just v) = record { found = true; read = lossy-of v }
 
-address-by : (b : List ℕ) (f : Found) → address-in b f ≡ meant-address (take 12 (drop 8 b)) (looked b f)
+pub address-by : (b : List ℕ) (f : Found) → address-in b f ≡ meant-address (take 12 (drop 8 b)) (looked b f)
 address-by b Nothing = refl
 address-by b (There start len) = refl
 
-text-by : (b : List ℕ) (f : Found) → text-in b f ≡ meant-text (looked b f)
+pub text-by : (b : List ℕ) (f : Found) → text-in b f ≡ meant-text (looked b f)
 text-by b Nothing = refl
 text-by b (There start len) = refl
 

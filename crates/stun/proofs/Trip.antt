@@ -15,6 +15,7 @@ use Rattle.stun_walk.proofs.Message.{Reads, reads}
 use Rattle.stun_write.specs.Source.{Attribute, Key, unsigned, signed, push-attr, attributes, header, encoded, sealed-body, integrity, fingerprint, fingerprint-of}
 use Rattle.stun_write.proofs.Lengths.{length-hmac}
 use Rattle.stun_write.proofs.Parts.{attributes-append, encoded-is}
+use Rattle.stun.specs.Rfc.{WellFormed}
 
 -- an attribute as it is sent: zeros pad it
 abbrev pub sent : Attribute → Part
@@ -123,6 +124,9 @@ module _ (typ : ℕ) (id : List ℕ) (attrs : List Attribute) (key : Key) (f : B
   -- it is the message that RFC 8489 writes from its attributes
   pub written-is : encoded typ id (attributes attrs) key f ≡ stun-message typ id (body parts)
   written-is = encoded-is typ id (w .ided) (attributes attrs) key f ∙ ap (stun-message typ id) body-is
+
+  pub well-formed : WellFormed (encoded typ id (attributes attrs) key f) typ id parts
+  well-formed = record { header = good; attributes = formed; whole = written-is }
 
   -- with anything after it, reading gives back type, id and every attribute in order
   pub trip : (after : List ℕ) → Reads (encoded typ id (attributes attrs) key f ++ after) typ id parts
