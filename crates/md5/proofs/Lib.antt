@@ -1,4 +1,0 @@
--- The laws of MD5: its operations, its words, and the test suite of the RFC.
-pub mod Turns
-pub mod Words
-pub mod Vectors

@@ -1,0 +1,30 @@
+-- `Sha1::update` meets its contract. Invariant: what the definition makes of the rest of the part from the words so far is
+-- what it made of it at the loop's start.
+use Rattle.std.proofs.Common.{◌+◌, ◌≤◌, length, sym, refl, ◌∙◌, arith, rules}
+use Rattle.digest.proofs.Parts.{same_running}
+use Rattle.digest.proofs.Update.{again_block, next_left, fed_short, fed_end}
+use Rattle.sha1_digest.specs.Rfc3174.{sha1}
+use Rattle.sha1_digest.specs.View.{view}
+use Rattle.sha1_digest.proofs.Sha1.update.Goals as goal
+
+pub returns-then-part-room : goal.returns-then-part-room
+returns-then-part-room c =
+    same_running refl c.wrapping_add_u64-count.ensures.value c.laid-tail.ensures
+    ∙ sym (fed_short sha1 refl (view c.args.self) (search rules) c.args.part.now c.if-part-room.true)
+
+pub loop-i-preserved : goal.loop-i-preserved
+loop-i-preserved c =
+    let l = c.loop-i in
+    let part = c.args.part.now in
+    let h : l.i + 64 ≤ length part = omega arith in (
+      h,
+      again_block sha1 refl part l.i l.words c.step-next.result h c.step-next.ensures ∙ l.invariant.1,
+      sym (next_left sha1 refl part l.i h) ∙ l.invariant.2,
+    )
+
+pub returns : goal.returns
+returns c =
+    let l = c.loop-i in
+    fed_end sha1 refl (view c.args.self) (search rules) c.args.part.now l.i c.wrapping_add_u64-count.result c.laid-first.result
+    c.step-words.result l.words c.laid-tail-2.result c.if-part-room.false c.laid-first.ensures c.step-words.ensures l.invariant.1 l.invariant.2
+    (omega arith) c.wrapping_add_u64-count.ensures.value c.laid-tail-2.ensures
