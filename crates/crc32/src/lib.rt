@@ -1,5 +1,7 @@
 // CRC-32 of ITU-T V.42, as RFC 8489 section 14.7 names it, a byte at a step through the table of RFC 1952 section 8.
 // A message can be taken whole, by `digest`, or in parts: `start`, `update` for each part, `finish`.
+#![tactic(auto)]
+
 mod entries;
 
 ghost use Rattle.std.specs.Prelude.{◌≡◌, ◌+◌, ◌≤◌, length, drop};

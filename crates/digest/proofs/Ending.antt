@@ -5,8 +5,8 @@ use mathlib.Core.Path.{◌≡◌, refl, sym, ap, ap₂, ◌∙◌}
 use Prim.Native.Nat.{ℕ, ◌+◌, ◌-◌, ◌*◌, ◌%◌, ◌^◌, ◌≤◌, ◌<◌}
 use native.Mathlib.Omega.{arith}
 use mathlib.Core.List.{List, [], ◌∷◌, ◌++◌, append_assoc, append-nil}
-use lib.ListN.{length, take, drop, replicate, length-append, length-take, length-replicate, replicate-append-replicate}
-use lib.Seq.{take_all, take-take, take_at, drop_at, drop-length}
+use lib.ListN.{length, take, replicate, length-append, length-take, length-replicate, replicate-append-replicate}
+use lib.Seq.{take_all, take-take, take_at, drop_at}
 use Rattle.digest.specs.Bytes.{Order, big, little, bytes}
 use Rattle.digest.specs.Digest.{Digest, padding, absorbed, result}
 use Rattle.digest.specs.Running.{Running, filled, finished}

@@ -1,10 +1,10 @@
 -- A text in parts has the HMAC of the whole: `keyed_parts`, from the same of the digest.
-use mathlib.Core.Path.{◌≡◌, refl, ap, ◌∙◌}
+use mathlib.Core.Path.{◌≡◌, ap, ◌∙◌}
 use Prim.Native.Nat.{ℕ, ◌%◌, ◌^◌, ◌<◌}
 use mathlib.Core.List.{List, ◌++◌}
 use Rattle.digest.specs.Digest.{Digest, digest}
 use Rattle.digest.specs.Running.{Running, run, fed, finished}
-use Rattle.digest.specs.Hmac.{Keyed, keyed, keyed_fed, keyed_finished, masked, hmac}
+use Rattle.digest.specs.Hmac.{keyed, keyed_fed, keyed_finished, masked, hmac}
 use Rattle.digest.proofs.Parts.{fed_run, fed_append, finished_run}
 
 module _ (d : Digest) (pos : 0 < d.block) (whole : (n : ℕ) → n % 2 ^ 64 % d.block ≡ n % d.block) where

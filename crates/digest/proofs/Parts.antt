@@ -1,14 +1,13 @@
 -- A message in parts has the digest of the whole: `fed_run`, `finished_run`. Blocks are taken off the front one by one
 -- (`absorbed_long`, `left_long`), so what a part leaves over stands before the next part (`absorbed_append`, `left_append`).
 use mathlib.Core.Path.{◌≡◌, refl, sym, ap, ◌∙◌}
-use Prim.Native.Nat.{ℕ, zero, suc, ◌+◌, ◌-◌, ◌*◌, ◌/◌, ◌%◌, ◌^◌, ◌≤◌, ◌<◌}
+use Prim.Native.Nat.{ℕ, zero, suc, ◌*◌, ◌/◌, ◌%◌, ◌^◌, ◌≤◌, ◌<◌}
 use native.Mathlib.Nat.{div-eq_of_lt, div-eq-sub-div, div-lt_iff_lt-mul, le-div_iff_mul-le, zero-mul, suc-mul, add_comm, one-mul, zero-mod, zero-add, mod-add-mod, mod-eq-sub-div-mul, mod-lt}
 use native.Mathlib.Numerals.{add-one}
 use native.Mathlib.Omega.{arith}
-use mathlib.Core.List.{List, [], ◌∷◌, ◌++◌, append_assoc}
-use lib.ListN.{length, take, drop, replicate, length-append, length-drop}
+use mathlib.Core.List.{List, [], ◌++◌, append_assoc}
+use lib.ListN.{length, take, drop, length-append, length-drop}
 use lib.Seq.{drop-drop, take-append-le, drop-append-le, take-take, take_at}
-use Rattle.digest.specs.Bytes.{bytes}
 use Rattle.digest.specs.Digest.{Digest, padding, absorbed, result, digest}
 use Rattle.digest.specs.Running.{Running, filled, left, held, fresh, fed, finished, run}
 

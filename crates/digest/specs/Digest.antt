@@ -1,7 +1,7 @@
 -- A digest of the family of MD5 and SHA-1, by its parameters: padding, blocks and result, as RFC 3174 sections 4, 6.1 and
 -- RFC 1321 sections 3.1, 3.2, 3.5 have them. Lengths of 2^61 bytes and more count modulo 2^64 bits (RFC 1321 section 3.2).
 use Rattle.std.specs.Prelude.{ℕ, zero, suc, ◌+◌, ◌-◌, ◌*◌, ◌/◌, ◌%◌, ◌^◌, length, take, drop, replicate}
-use mathlib.Core.List.{List, [], ◌∷◌, ◌++◌, flat_map}
+use mathlib.Core.List.{List, ◌∷◌, ◌++◌, flat_map}
 use Rattle.digest.specs.Bytes.{Order, bytes}
 
 pub record Digest : Type 0 where

@@ -1,7 +1,7 @@
 -- A digest over a message that comes in parts: the words after the whole blocks so far, how many bytes came, and the bytes of
 -- the block that is not full yet, with zeros after them. `run m` is what stands after the message m, however it was cut
 -- (proofs/Parts.antt), and `finished` of that is the digest of m.
-use Rattle.std.specs.Prelude.{ℕ, ◌+◌, ◌*◌, ◌/◌, ◌%◌, ◌^◌, List, [], ◌++◌, length, take, drop, replicate}
+use Rattle.std.specs.Prelude.{ℕ, ◌+◌, ◌*◌, ◌/◌, ◌%◌, ◌^◌, List, ◌++◌, length, take, drop, replicate}
 use Rattle.digest.specs.Digest.{Digest, padding, absorbed, result}
 
 pub record Running : Type 0 where

@@ -1,6 +1,8 @@
 // What the digests share: the circular shift, a block that fills up, the padded end of a message,
 // numbers as bytes. RFC 3174 sections 3 and 4, RFC 1321 sections 2 and 3. Nothing here knows which
 // digest calls it.
+#![tactic(auto)]
+
 ghost use Rattle.std.specs.Prelude.{◌≡◌, [], ◌∷◌, ◌++◌, ◌*◌, ◌%◌, ◌^◌, ◌≤◌, min, take, length};
 ghost use Rattle.digest.specs.Word.{rotl};
 ghost use Rattle.digest.specs.Bytes.{bytes, ordered, low_first};

@@ -1,15 +1,17 @@
 // HMAC-SHA1 (RFC 2104) for a key of any length, over a text that may come in parts: `new` with the
 // key, then `update` with each part, then `finish`; `digest` for a text in one part.
+#![tactic(auto)]
+
 ghost use Rattle.std.specs.Prelude.{◌≡◌, map};
 ghost use Rattle.std.specs.Int.Bits.{bit_xor};
 ghost use Rattle.digest.specs.Hmac.{hmac, keyed, keyed_fed, keyed_finished, key_block};
-ghost use Rattle.sha1.specs.Rfc3174.{sha1};
+ghost use Rattle.sha1_digest.specs.Rfc3174.{sha1};
 ghost use Rattle.hmac.specs.{keyed_view};
 
-use sha1::Sha1;
+use sha1_digest::Sha1;
 
 // The inner digest, which takes the text, and the outer one; each has taken its masked key.
-#[derive(Drop)]
+#[derive(Clone, Copy)]
 pub struct HmacSha1 {
     pub inner: Sha1,
     pub outer: Sha1,
@@ -59,11 +61,12 @@ pub fn digest(key: &[u8], text: &[u8]) -> [u8; 20]
 }
 
 // The key with zeros up to a block, digested first where it is longer.
+#[tactic(auto, unfolding(digest::specs::Hmac::key_block))]
 fn key_block(key: &[u8]) -> [u8; 64]
     ensures { result ≡ key_block sha1 key.now }
 {
     if 64 < key.len() {
-        let short = sha1::digest(key);
+        let short = sha1_digest::digest(key);
         return digest::laid([0; 64], 0, &short);
     }
     digest::laid([0; 64], 0, key)

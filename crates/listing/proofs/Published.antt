@@ -1,6 +1,6 @@
 -- Document 01's listing, line by line, and a line of each other kind.
 use mathlib.Core.Path.{◌≡◌, refl, sym}
-use mathlib.Core.List.{List, [], ◌∷◌}
+use mathlib.Core.List.{[], ◌∷◌}
 use native.Mathlib.Omega.{arith}
 use Rattle.turn_deadline.specs.declared.Deadline.TheVariants.{At, Never}
 use Rattle.listing.specs.declared.Call.TheVariants.{Start, Data, Send, Poll, Lost, Close}

@@ -1,4 +1,6 @@
 // The lines of a replay listing as document 01 has them, each as a text with its newline.
+#![tactic(auto)]
+
 ghost use Rattle.std.specs.Prelude.{◌≡◌, [], ◌∷◌, ◌++◌, ◌+◌, ◌≤◌, length};
 ghost use Rattle.listing.specs.Listing.{decimal as «decimal_of», name, due, blank, newline, first_text, call_text, bad_text, refused_text};
 ghost use Rattle.listing.specs.Held.{held, Holds, Adds, Shows};
@@ -7,13 +9,13 @@ use turn_deadline::Deadline;
 
 // The first `len` bytes; the room after them is zero.
 #[repr(C)]
-#[derive(Drop)]
+#[derive(Clone, Copy)]
 pub struct Line {
     pub bytes: [u8; 160],
     pub len: usize,
 }
 
-#[derive(Drop)]
+#[derive(Clone, Copy)]
 pub enum Call {
     Start,
     Data,
@@ -25,7 +27,7 @@ pub enum Call {
 
 // The digits of a number and the byte after them, from `from` on.
 #[repr(C)]
-#[derive(Drop)]
+#[derive(Clone, Copy)]
 struct Digits {
     bytes: [u8; 21],
     from: usize,

@@ -1,1 +1,2 @@
 // Laws on lists that several crates' proofs cite (proofs/). There is no code here.
+#![tactic(auto)]

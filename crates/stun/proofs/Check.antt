@@ -6,7 +6,7 @@ use mathlib.Core.List.{List, [], ◌∷◌, ◌++◌, map, map-append, append_as
 use mathlib.Core.Bool.{Bool, true}
 use lib.ListN.{length, length-append}
 use Rattle.digest.specs.Hmac.{hmac}
-use Rattle.sha1.specs.Rfc3174.{sha1}
+use Rattle.sha1_digest.specs.Rfc3174.{sha1}
 use Rattle.stun_walk.specs.Rfc.{Part, body, nothing, value_of}
 use Rattle.stun_check.specs.Source.{verified}
 use Rattle.stun_write.specs.Source.{Attribute, signed, attributes, header, encoded, integrity}

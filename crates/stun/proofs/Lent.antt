@@ -1,17 +1,17 @@
 -- The same for the room that `encode` and `seal` leave: where they answer `Bytes n`, the room reads as the message (`left_reads`), and
 -- the check passes on its first n bytes (`left_passes`).
-use mathlib.Core.Path.{◌≡◌, refl, sym, ap, subst, ◌∙◌}
-use Prim.Native.Nat.{ℕ, ◌+◌, ◌^◌, ◌≤◌, ◌<◌}
+use mathlib.Core.Path.{◌≡◌, sym, ap, subst, ◌∙◌}
+use Prim.Native.Nat.{ℕ, ◌+◌, ◌^◌, ◌<◌}
 use native.Mathlib.Omega.{arith}
 use mathlib.Core.List.{List, ◌++◌, map}
-use mathlib.Core.Bool.{Bool, true, false}
+use mathlib.Core.Bool.{Bool, true}
 use lib.ListN.{length, take, drop, length-append}
 use lib.Seq.{take_at}
 use Rattle.stun_frame.specs.declared.Written.TheVariants.{Bytes}
 use Rattle.stun_check.specs.Source.{verified}
 use Rattle.stun_walk.specs.Rfc.{nothing, value_of}
 use Rattle.stun_walk.proofs.Message.{Reads}
-use Rattle.stun_write.specs.Source.{Attribute, key_of, attributes, encoded, sealed_body, sealed_size, integrity, fingerprint, Encoded}
+use Rattle.stun_write.specs.Source.{Attribute, key_of, attributes, encoded, sealed_body, integrity, fingerprint, Encoded}
 use Rattle.stun_write.proofs.Lengths.{length-integrity, length-fingerprint, length-encoded}
 use Rattle.stun_write.proofs.Answers.{was_written}
 use Rattle.stun.proofs.Trip.{AllFit, Writable, parts, sent, trip}

@@ -1,10 +1,10 @@
 -- Addresses, texts, codes and lifetimes of a message that is read as RFC 8489 has it (`Reads`): the first attribute of the type that
 -- is asked for, by its meaning (`address_reads`, `text_reads`, `error_reads`, `seconds_read`).
 use mathlib.Core.Path.{◌≡◌, refl, sym, ap, ap₂, ◌∙◌}
-use Prim.Native.Nat.{ℕ, ◌+◌, ◌*◌, ◌/◌, ◌%◌, ◌^◌, ◌≤◌, ◌<◌}
+use Prim.Native.Nat.{ℕ, ◌+◌, ◌*◌, ◌/◌, ◌%◌, ◌^◌, ◌<◌}
 use native.Mathlib.Omega.{arith}
 use mathlib.Core.List.{List, [], ◌++◌}
-use mathlib.Core.Bool.{Bool, true, false}
+use mathlib.Core.Bool.{true, false}
 use lib.ListN.{length, take, drop}
 use Rattle.stun_address.specs.declared.Address.{Address}
 use Rattle.stun_address.specs.declared.Peer.{Peer}
@@ -22,7 +22,7 @@ use Rattle.stun_walk.specs.declared.Decoded.{Decoded}
 use Rattle.stun_walk.specs.declared.Found.{Found}
 use Rattle.stun_walk.specs.declared.Found.TheVariants.{At as There, Nothing}
 use Rattle.stun_walk.specs.Rfc.{Part, Maybe, just, nothing, value_of}
-use Rattle.stun_walk.specs.Source.{get_of, address_in, xor_addr_of, text_in, get_str_of, decoded, readable, error_code_of, lifetime_of}
+use Rattle.stun_walk.specs.Source.{get_of, address_in, xor_addr_of, text_in, get_str_of, decoded, error_code_of, lifetime_of}
 use Rattle.stun_walk.proofs.Message.{Reads, looked, code_reads, lifetime_reads}
 use Rattle.stun.specs.Rfc.{error_value, ErrorCode, lifetime_value}
 

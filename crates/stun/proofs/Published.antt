@@ -6,8 +6,8 @@ use mathlib.Core.List.{List, [], ◌∷◌, flat_map}
 use Prim.Native.Nat.{ℕ}
 use Rattle.digest.specs.Digest.{padding, absorbed, result, digest}
 use Rattle.digest.specs.Hmac.{key_block, hmac}
-use Rattle.sha1.specs.Rfc3174.{f, K, schedule, round, rounds, step}
-use Rattle.md5.specs.Rfc1321.{T, operation, turn, turns, step as md5_step}
+use Rattle.sha1_digest.specs.Rfc3174.{f, K, schedule, round, rounds, step}
+use Rattle.md5_digest.specs.Rfc1321.{T, operation, turn, turns, step as md5_step}
 use Rattle.stun_check.specs.Source.{long_term}
 use Rattle.stun_write.specs.Source.{Attribute, signed, attributes, push_attr, with_integrity, with_fingerprint, encoded}
 

@@ -11,7 +11,7 @@ use lib.Dec.{leb, eqb}
 use lib.ListN.{length, take, drop, length-append}
 use lib.Seq.{take_at, drop_at}
 use Rattle.digest.specs.Hmac.{hmac}
-use Rattle.sha1.specs.Rfc3174.{sha1}
+use Rattle.sha1_digest.specs.Rfc3174.{sha1}
 use Rattle.stun_frame.specs.Rfc.{two, StunParts, stun_message}
 use Rattle.stun_walk.specs.Rfc.{Part, AllFormed, body, Maybe, nothing, just, value_of}
 use Rattle.stun_walk.proofs.Reading.{past, typ_at, len_at, length-past, past_is}

@@ -1,16 +1,16 @@
 -- What is written is read: the bytes of `encoded` are a message well-formed by RFC 8489 (`written_is`), so reading gives back
 -- type, id and every attribute in order, integrity and FINGERPRINT behind them (`trip`).
 use mathlib.Core.Path.{◌≡◌, refl, sym, ap, ap₂, subst, ◌∙◌}
-use Prim.Native.Nat.{ℕ, ◌+◌, ◌-◌, ◌*◌, ◌/◌, ◌%◌, ◌^◌, ◌≤◌, ◌<◌}
+use Prim.Native.Nat.{ℕ, ◌+◌, ◌%◌, ◌^◌, ◌<◌}
 use native.Mathlib.Omega.{arith}
 use mathlib.Core.List.{List, [], ◌∷◌, ◌++◌, map, append_assoc, append-nil}
 use mathlib.Core.Bool.{Bool, true, false}
 use lib.ListN.{length, replicate, length-append, length-replicate}
 use Rattle.digest.specs.Hmac.{hmac}
-use Rattle.sha1.specs.Rfc3174.{sha1}
-use Rattle.stun_frame.specs.Source.{padding, to_be}
+use Rattle.sha1_digest.specs.Rfc3174.{sha1}
+use Rattle.stun_frame.specs.Source.{padding}
 use Rattle.stun_frame.specs.Rfc.{two, stun_message, StunParts}
-use Rattle.stun_walk.specs.Rfc.{Part, Formed, AllFormed, body}
+use Rattle.stun_walk.specs.Rfc.{Part, AllFormed, body}
 use Rattle.stun_walk.proofs.Message.{Reads, reads}
 use Rattle.stun_write.specs.Source.{Attribute, Key, unsigned, signed, push_attr, attributes, header, encoded, sealed_body, integrity, fingerprint, fingerprint_of}
 use Rattle.stun_write.proofs.Lengths.{length-hmac}

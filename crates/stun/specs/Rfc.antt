@@ -1,6 +1,6 @@
 -- A whole message (RFC 8489 sections 5 and 14), and the values of ERROR-CODE (section 14.8) and LIFETIME (RFC 8656 section 18.2). Those of
 -- the XOR addresses are `stun_address`'s.
-use Rattle.std.specs.Prelude.{◌≡◌, ℕ, ◌+◌, ◌*◌, ◌/◌, ◌%◌, ◌^◌, ◌≤◌, ◌<◌, List, [], ◌∷◌, ◌++◌}
+use Rattle.std.specs.Prelude.{◌≡◌, ℕ, ◌+◌, ◌*◌, ◌/◌, ◌%◌, ◌^◌, ◌≤◌, ◌<◌, List, ◌∷◌, ◌++◌}
 use Rattle.stun_frame.specs.Rfc.{two, StunParts, stun_message}
 use Rattle.stun_walk.specs.Rfc.{Part, AllFormed, body}
 

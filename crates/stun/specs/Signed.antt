@@ -2,7 +2,7 @@
 -- whatever follows its MESSAGE-INTEGRITY.
 use Rattle.std.specs.Prelude.{◌≡◌, List, [], ◌∷◌, ◌++◌, ℕ, length}
 use Rattle.digest.specs.Hmac.{hmac}
-use Rattle.sha1.specs.Rfc3174.{sha1}
+use Rattle.sha1_digest.specs.Rfc3174.{sha1}
 use Rattle.stun_walk.specs.Rfc.{Part, body, nothing, value_of}
 use Rattle.stun_write.specs.Rfc.{up_to}
 use Rattle.stun.specs.Rfc.{WellFormed}

@@ -2,7 +2,7 @@
 -- byte by byte (`to_be_xor`).
 use mathlib.Core.Path.{◌≡◌, refl, sym, ap, ap₂, ◌∙◌}
 use mathlib.Core.List.{List, [], ◌∷◌, ◌++◌, append_assoc, append-nil}
-use Prim.Native.Nat.{ℕ, zero, suc, ◌+◌, ◌-◌, ◌*◌, ◌/◌, ◌%◌, ◌^◌, ◌≤◌, ◌<◌}
+use Prim.Native.Nat.{ℕ, zero, suc, ◌+◌, ◌*◌, ◌/◌, ◌%◌, ◌^◌, ◌≤◌, ◌<◌}
 use native.Mathlib.Nat.{pow-suc, mul_assoc, mul_comm, add-mul, add-zero, add-suc, mul-le-mul_right, mod-eq_of_lt}
 use native.Mathlib.Numerals.{one-add}
 use native.Mathlib.Omega.{arith}

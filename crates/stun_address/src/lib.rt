@@ -1,28 +1,30 @@
 // XOR addresses: `encode_xor_addr` and `decode_xor_addr` of stun.rs. RFC 8489 section 14.2, and 14.1 for the family. An IPv4
 // address is a number of 32 bits, an IPv6 address two of 64 bits, the high one first.
+#![tactic(auto)]
+
 ghost use Rattle.std.specs.Prelude.{◌≡◌, [], ◌∷◌, ◌++◌};
 ghost use Rattle.stun_address.specs.Source.{to_be, key, encoded, decode_xor_addr};
 
-#[derive(Drop)]
+#[derive(Clone, Copy)]
 pub enum Ip {
     V4(u32),
     V6(u64, u64),
 }
 
-#[derive(Drop)]
+#[derive(Clone, Copy)]
 pub struct Address {
     pub ip: Ip,
     pub port: u16,
 }
 
 // The value of an attribute: the first `len` bytes, and zeros after them.
-#[derive(Drop)]
+#[derive(Clone, Copy)]
 pub struct Encoded {
     pub bytes: [u8; 20],
     pub len: usize,
 }
 
-#[derive(Drop)]
+#[derive(Clone, Copy)]
 pub enum Peer {
     At(Address),
     Nothing,
@@ -94,7 +96,7 @@ fn eight_joined(a: u8, b: u8, c: u8, d: u8, e: u8, f: u8, g: u8, h: u8) -> u64
 }
 
 // The key of an IPv6 address, as the two numbers that its 16 bytes write.
-#[derive(Drop)]
+#[derive(Clone, Copy)]
 struct Mask {
     high: u64,
     low: u64,
@@ -145,6 +147,7 @@ pub fn encode_xor_addr(addr: Address, id: &[u8; 12]) -> Encoded
 }
 
 // The address that such a value holds.
+#[tactic(auto, using(crate::proofs::Reading::decode_short, crate::proofs::Reading::decode_family))]
 pub fn decode_xor_addr(v: &[u8], id: &[u8; 12]) -> Peer
     ensures { result ≡ decode_xor_addr v.now id.now }
 {

@@ -1,11 +1,11 @@
 -- What the check digests in two parts is what the definition covers (`covered_is`, `signed`), and what it compares is the
 -- definition's answer (`verified_is`). Five parts make the long-term key (`keyed_by`).
-use mathlib.Core.Path.{◌≡◌, refl, sym, ap, ap₂, ◌∙◌}
+use mathlib.Core.Path.{◌≡◌, sym, ap, ◌∙◌}
 use Prim.Native.Nat.{ℕ, zero, suc, ◌+◌, ◌-◌, ◌/◌, ◌%◌, ◌^◌, ◌≤◌, ◌<◌}
 use native.Mathlib.Nat.{sub-zero, zero-sub, suc-sub-suc}
 use native.Mathlib.Omega.{arith}
 use mathlib.Core.List.{List, [], ◌∷◌, ◌++◌, append_assoc}
-use mathlib.Core.Bool.{Bool, false}
+use mathlib.Core.Bool.{false}
 use borrow.Author.Tests.{le-ltb, lt-ltb}
 use lib.ListN.{length, get_or, take, drop}
 use lib.Seq.{take-nil}
@@ -15,8 +15,8 @@ use Rattle.digest.specs.Hmac.{Keyed, hmac, keyed, keyed_fed, keyed_finished}
 use Rattle.digest.proofs.Parts.{fed_run, finished_run}
 use Rattle.digest.proofs.Hmac.{keyed_append, keyed_parts}
 use Rattle.lists.proofs.Elements.{take-elements}
-use Rattle.sha1.specs.Rfc3174.{sha1}
-use Rattle.md5.specs.Rfc1321.{md5}
+use Rattle.sha1_digest.specs.Rfc3174.{sha1}
+use Rattle.md5_digest.specs.Rfc1321.{md5}
 use Rattle.stun_check.specs.Source.{integrity_at, covered, same, verified, long_term}
 
 drop_take : (k n : ℕ) (l : List ℕ) → drop k (take n l) ≡ take (n - k) (drop k l)

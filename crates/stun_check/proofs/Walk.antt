@@ -1,15 +1,15 @@
 -- The check's own walk, one turn of the loop: it stops, it has found the attribute, or it passes over one. `Left` is what a
 -- turn keeps: from here on, with attributes enough, the definition finds what it finds from the start.
-use mathlib.Core.Path.{◌≡◌, refl, sym, ap, ◌∙◌}
-use Prim.Native.Nat.{ℕ, zero, suc, ◌+◌, ◌*◌, ◌≤◌, ◌<◌, min}
+use mathlib.Core.Path.{◌≡◌, refl, ◌∙◌}
+use Prim.Native.Nat.{ℕ, zero, suc, ◌+◌, ◌≤◌, ◌<◌, min}
 use native.Mathlib.Nat.{lt_of_not-le}
 use native.Mathlib.Decide.{dec_le}
 use native.Mathlib.Omega.{arith}
 use mathlib.Core.List.{List}
-use mathlib.Core.Bool.{Bool, true, false, ◌&&◌, cond}
+use mathlib.Core.Bool.{true, false, ◌&&◌}
 use borrow.Author.Tests.{le-leb, lt-leb, eq-eqb, ne_eqb}
 use lib.ListN.{length}
-use lib.Dec.{leb, eqb}
+use lib.Dec.{leb}
 use Rattle.stun_check.specs.Source.{u16_at, padded, integrity_from, integrity_at}
 
 goes : (b : List ℕ) (p : ℕ) → p + 4 ≤ min (20 + u16_at b 2) (length b) → (leb (p + 4) (20 + u16_at b 2) && leb (p + 4) (length b)) ≡ true

@@ -4,8 +4,8 @@ use mathlib.Core.Bool.{Bool, false, cond, ◌&&◌}
 use Rattle.digest.specs.Bytes.{bytes, big}
 use Rattle.digest.specs.Digest.{digest}
 use Rattle.digest.specs.Hmac.{hmac}
-use Rattle.sha1.specs.Rfc3174.{sha1}
-use Rattle.md5.specs.Rfc1321.{md5}
+use Rattle.sha1_digest.specs.Rfc3174.{sha1}
+use Rattle.md5_digest.specs.Rfc1321.{md5}
 
 -- u16::from_be_bytes([buf[p], buf[p + 1]])
 abbrev pub u16_at : List ℕ → ℕ → ℕ

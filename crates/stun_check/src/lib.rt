@@ -1,10 +1,12 @@
 // The check of MESSAGE-INTEGRITY (`Message::verify` of stun.rs; RFC 8489 section 14.5), and the key
 // of the long-term credential (`long_term_key`; section 9.2.2).
+#![tactic(auto)]
+
 ghost use Rattle.std.specs.Prelude.{◌≡◌, ◌+◌, ◌*◌, ◌≤◌, ◌<◌, min, length, take, drop};
 ghost use Rattle.stun_check.specs.Source.{verified, long_term, same as «same_of», padded as «padded_of», u16_at, integrity_at};
 
 use hmac::HmacSha1;
-use md5::Md5;
+use md5_digest::Md5;
 
 const MESSAGE_INTEGRITY: usize = 0x0008;
 

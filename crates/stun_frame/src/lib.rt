@@ -1,6 +1,8 @@
 // Which of the two formats bytes are, ChannelData, and the frames of a stream: `class`, `is_stun`, `is_channel_data`,
 // `encode_channel_data` and `decode_channel_data` of stun.rs, `stream_frame_len` of turn.rs. RFC 8489 sections 5 and 6,
 // RFC 8656 sections 12.4 and 12.5.
+#![tactic(auto)]
+
 ghost use Rattle.std.specs.Prelude.{◌≡◌, ◌+◌, ◌≤◌, length};
 ghost use Rattle.std.proofs.Math.Seq.{paste};
 ghost use Rattle.stun_frame.specs.Source.{from_be, class, is_stun, is_channel_data, decode_channel_data, encode_channel_data, written, room_after, whole, stream_frame_len};
@@ -10,7 +12,7 @@ pub mod names;
 
 use classes::Class;
 
-#[derive(Drop)]
+#[derive(Clone, Copy)]
 pub enum Channel {
     // The bytes of the data: `len` of them from `start` on.
     Data {
@@ -21,7 +23,7 @@ pub enum Channel {
     Nothing,
 }
 
-#[derive(Drop)]
+#[derive(Clone, Copy)]
 pub enum Written {
     // How many bytes at the front of the room.
     Bytes(usize),
@@ -29,7 +31,7 @@ pub enum Written {
     NoRoom,
 }
 
-#[derive(Drop)]
+#[derive(Clone, Copy)]
 pub enum Frame {
     Incomplete,
     Whole(usize),
@@ -62,6 +64,7 @@ fn wide(x: u16) -> usize
 }
 
 // 20 bytes or more, two zero bits first, the magic cookie.
+#[tactic(auto, unfolding(crate::specs::Source::is_stun))]
 pub fn is_stun(buf: &[u8]) -> bool
     ensures { result ≡ is_stun buf.now }
 {
@@ -92,6 +95,7 @@ pub fn is_stun(buf: &[u8]) -> bool
 }
 
 // 4 bytes or more, the first of them 0x40 to 0x7F.
+#[tactic(auto, unfolding(crate::specs::Source::is_channel_data))]
 pub fn is_channel_data(buf: &[u8]) -> bool
     ensures { result ≡ is_channel_data buf.now }
 {

@@ -11,9 +11,9 @@ use lib.Seq.{paste, take-append-add, take-append_seam, drop-append-add, take-len
 use lib.Dec.{leb}
 use borrow.Author.Tests.{le-leb, lt-leb}
 use Rattle.stun_text.specs.declared.Replaced.{Replaced}
-use Rattle.stun_text.specs.Utf8.{replaced}
+use Rattle.stun_text.specs.Utf8.{replaced, size, whole}
 use Rattle.stun_text.specs.Lossy.{filled, text_of, no_room, lossy_of}
-use Rattle.stun_text.proofs.Cut.{replaced_end}
+use Rattle.stun_text.proofs.Cut.{replaced_end, replaced_at}
 
 take-zeros : (k n : ℕ) → k ≤ n → take {A = ℕ} k (replicate n 0) ≡ replicate k 0
 take-zeros zero n h = refl
@@ -53,9 +53,10 @@ pub record Written (s bytes : List ℕ) (len i : ℕ) : Type 0 where
   pub long : length text ≡ len
   pub laid : bytes ≡ filled text
   pub rest : replaced s ≡ text ++ replaced (drop i s)
+  pub many : length (replaced s) ≡ len + length (replaced (drop i s))
 
 pub written_none : (s : List ℕ) → Written s (filled []) 0 0
-written_none s = record { text = []; long = refl; laid = refl; rest = refl }
+written_none s = record { text = []; long = refl; laid = refl; rest = refl; many = omega arith }
 
 module _ {s bytes : List ℕ} {len i : ℕ} (room : len ≤ 763) (w : Written s bytes len i) where
   pub written_room : length bytes ≡ 763
@@ -73,6 +74,7 @@ module _ {s bytes : List ℕ} {len i : ℕ} (room : len ≤ 763) (w : Written s 
             ∙ ap₂ (λ (d : List ℕ) (k : ℕ). paste d k part (length part)) w.laid (sym w.long)
             ∙ paste_pad 763 w.text part (omega (arith, w.long));
         rest = w.rest ∙ ap (λ (l : List ℕ). w.text ++ l) r ∙ sym (append_assoc w.text part (replaced (drop j s)));
+        many = omega (arith, w.many, e, simp length-append at (ap length r));
       }
 
   -- the next part has no room
@@ -93,3 +95,14 @@ module _ {s bytes : List ℕ} {len i : ℕ} (room : len ≤ 763) (w : Written s 
       let b : leb (length (replaced s)) 763 ≡ true = le-leb (length (replaced s)) 763 (omega arith) in
       ap₂ {C = Replaced} (λ (a : List ℕ) (k : ℕ). record { fits = true; text = record { bytes = a; len = k } }) (w.laid ∙ ap filled (sym e)) (sym l)
       ∙ sym (ap (λ (t : Bool). cond t (record { fits = true; text = text_of (replaced s) }) no_room) b)
+
+-- the mark for an ill-formed part takes three bytes
+pub mark_next : (s : List ℕ) (i : ℕ) → i < length s → whole (drop i s) ≡ false → 3 ≤ length (replaced (drop i s))
+mark_next s i h ill =
+    omega
+    (arith, ap length (replaced_at s i (size (drop i s)) (whole (drop i s)) h (refl, refl) ∙ ap (λ (t : Bool). cond t (take (size (drop i s)) (drop i s)) (0xEF ∷ 0xBF ∷ 0xBD ∷ []) ++ replaced (drop (i + size (drop i s)) s)) ill))
+
+-- a replaced text that is too long
+pub over : (s : List ℕ) → 763 < length (replaced s) → lossy_of s ≡ no_room
+unfolding lossy_of
+over s h = ap (λ (t : Bool). cond t (record { fits = true; text = text_of (replaced s) }) no_room) (lt-leb (length (replaced s)) 763 h)

@@ -147,6 +147,10 @@ begins_none lo hi b t h k =
       good = λ l. (unpicked b (λ f v. vanish b f v lo hi h k table t) l).1 ∙ ap (λ (n : ℕ). eqb n 1) (sym (empty l));
     }
 
+-- the bytes between the first two rows
+pub begins_gap : (b : ℕ) → 0x80 ≤ b → b ≤ 0xC1 → Leads b 1 1 0
+begins_gap b h k = begins_none 0x80 0xC1 b tt h k
+
 -- the two rows that ask the same, on both sides of ED
 pub begins_either : (b : ℕ) → 0xE1 ≤ b → b ≤ 0xEF → (b ≡ 0xED → ⊥) → Leads b 2 0x80 0xBF
 begins_either b h k n = go (dec_le b 0xEC)

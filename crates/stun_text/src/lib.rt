@@ -1,5 +1,7 @@
 // Text as a STUN message carries it, UTF-8 (the Unicode Standard, section 3.9): whether it is
 // well-formed, and the text with U+FFFD for each maximal ill-formed subpart.
+#![tactic(auto)]
+
 ghost use Rattle.std.specs.Prelude.{◌≡◌, suc, ◌+◌, ◌<◌, ◌≤◌, length, drop, eqb};
 ghost use Rattle.std.proofs.Math.Seq.{paste};
 ghost use Rattle.stun_text.specs.Utf8.{agree, size, whole, well_formed};
@@ -8,21 +10,21 @@ ghost use Rattle.stun_text.specs.Following.{following, Leads};
 
 // The first `len` bytes; the room after them is zero.
 #[repr(C)]
-#[derive(Drop)]
+#[derive(Clone, Copy)]
 pub struct Text {
     pub bytes: [u8; 763],
     pub len: usize,
 }
 
 // `fits` is false where the replaced text is longer than the room, and the text is then empty.
-#[derive(Drop)]
+#[derive(Clone, Copy)]
 pub struct Replaced {
     pub fits: bool,
     pub text: Text,
 }
 
 // A well-formed sequence, where `good`, or a maximal subpart, of `len` bytes.
-#[derive(Drop)]
+#[derive(Clone, Copy)]
 struct Part {
     len: usize,
     good: bool,
@@ -30,10 +32,11 @@ struct Part {
 
 // What a first byte asks of the bytes after it: how many there are, and the range of the second
 // byte, from and to.
-#[derive(Drop)]
+#[derive(Clone, Copy)]
 struct Row(usize, u8, u8);
 
 // The text with U+FFFD for each maximal ill-formed subpart.
+#[tactic(auto, using(crate::proofs::Room::mark_next, crate::proofs::Room::over))]
 pub fn lossy(s: &[u8]) -> Replaced
     ensures { result ≡ lossy_of s.now }
 {
@@ -154,6 +157,7 @@ fn follow(s: &[u8], at: usize, more: usize, low: u8, high: u8) -> Part
 }
 
 // The row of Table 3-7 that a byte begins. One that begins none asks for a byte of an empty range.
+#[tactic(auto, using(crate::proofs::Table::begins_gap))]
 fn row_of(b: u8) -> Row
     ensures { Leads b result.0 result.1 result.2 }
 {

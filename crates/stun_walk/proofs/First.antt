@@ -1,6 +1,6 @@
 -- What the pass hits is the first attribute of its type (`outcome`), and its value lies in the message (`get_inside`).
 use mathlib.Core.Path.{◌≡◌, refl, sym, ap, subst, ◌∙◌}
-use Prim.Native.Nat.{ℕ, zero, suc, ◌+◌, ◌*◌, ◌≤◌, ◌<◌}
+use Prim.Native.Nat.{ℕ, zero, suc, ◌+◌, ◌≤◌, ◌<◌}
 use native.Mathlib.Decide.{ℕ_discrete, dec_le}
 use native.Mathlib.Nat.{lt_of_not-le}
 use native.Mathlib.Omega.{arith}
@@ -9,9 +9,8 @@ use mathlib.Core.Bool.{Bool, true, false, ◌&&◌, cond, false≢true}
 use mathlib.Core.Logic.{◌⊎◌, inl, inr, ⊎_elim}
 use borrow.Author.Tests.{le-leb, lt-leb, leb-true, eq-eqb, ne_eqb}
 use lib.ListN.{length}
-use lib.Dec.{leb, eqb}
+use lib.Dec.{leb}
 use Rattle.stun_frame.specs.Source.{field_at, is_stun}
-use Rattle.stun_walk.specs.declared.Found.{Found}
 use Rattle.stun_walk.specs.declared.Found.TheVariants.{At, Nothing}
 use Rattle.stun_walk.specs.Source.{Attribute, attributes_from, attributes, inside, readable, padded, first, get_of}
 use Rattle.stun_walk.specs.Scan.{kept, hit_in, scanned}

@@ -1,24 +1,23 @@
 -- Reading gives RFC 8489's meaning on every message that is well-formed by it, with anything after it: type, id, each
 -- attribute in order, the first of each type, the code and the lifetime (`Reads`).
 use mathlib.Core.Path.{◌≡◌, refl, sym, ap, ap₂, ◌∙◌}
-use Prim.Native.Nat.{ℕ, zero, suc, ◌+◌, ◌*◌, ◌/◌, ◌%◌, ◌^◌, ◌≤◌, ◌<◌}
+use Prim.Native.Nat.{ℕ, ◌+◌, ◌*◌, ◌/◌, ◌%◌, ◌^◌, ◌≤◌, ◌<◌}
 use native.Mathlib.Nat.{add-zero, add_assoc}
 use native.Mathlib.Omega.{arith}
 use mathlib.Core.List.{List, [], ◌∷◌, ◌++◌, map, append_assoc}
-use mathlib.Core.Bool.{Bool, true, false, ◌&&◌, cond}
-use borrow.Author.Tests.{le-leb, eq-eqb, le-ltb}
+use mathlib.Core.Bool.{Bool, true, false, cond}
+use borrow.Author.Tests.{le-leb}
 use lib.ListN.{length, get_or, take, drop, length-append, length-take}
 use lib.Seq.{take_at, get_or-take, get_or-drop}
-use lib.Dec.{leb, eqb}
+use lib.Dec.{eqb}
 use lib.Bits.{bit_and, and_comm, and_shifted}
 use Rattle.stun_frame.specs.Source.{field_at, is_stun}
 use Rattle.stun_frame.specs.Rfc.{two, stun_message, StunParts}
 use Rattle.stun_walk.specs.declared.Found.{Found}
 use Rattle.stun_walk.specs.declared.Found.TheVariants.{At, Nothing}
-use Rattle.stun_walk.specs.declared.Decoded.{Decoded}
 use Rattle.stun_walk.specs.declared.Code.TheVariants.{Error}
 use Rattle.stun_walk.specs.declared.Granted.TheVariants.{Seconds}
-use Rattle.stun_walk.specs.Source.{Attribute, attributes, inside, readable, decoded, first, get_of, error_code_of, lifetime_of}
+use Rattle.stun_walk.specs.Source.{Attribute, attributes, readable, decoded, first, get_of, error_code_of, lifetime_of}
 use Rattle.stun_walk.specs.Rfc.{Part, AllFormed, body, Maybe, nothing, just, value_of}
 use Rattle.stun_walk.proofs.Reading.{Meaning, seen, meant, Walked, walked}
 use Rattle.stun_walk.proofs.Values.{decoded_some, code_some, lifetime_some}

@@ -1,11 +1,11 @@
 -- Code, lifetime, address and text by what the lookup found, and the answers of `decode`.
-use mathlib.Core.Path.{◌≡◌, refl, ap, ◌∙◌}
+use mathlib.Core.Path.{◌≡◌, ◌∙◌}
 use Prim.Native.Nat.{ℕ, ◌+◌, ◌-◌, ◌*◌, ◌%◌, ◌≤◌, ◌<◌}
 use native.Mathlib.Omega.{arith}
 use mathlib.Core.List.{List, []}
 use mathlib.Core.Bool.{true, false}
 use borrow.Author.Tests.{lt-ltb, le-ltb}
-use lib.ListN.{length, get_or, take, drop, replicate}
+use lib.ListN.{get_or, take, drop, replicate}
 use Rattle.stun_frame.specs.Source.{field_at}
 use Rattle.stun_address.specs.declared.Peer.{Peer}
 use Rattle.stun_address.specs.declared.Peer.TheVariants.{Nothing as NoPeer}

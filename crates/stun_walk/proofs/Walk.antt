@@ -2,13 +2,12 @@
 -- it finds from the start. A turn stops (`left_none`), meets a value that passes the end (`left_past`) or passes over one
 -- (`left_next`).
 use mathlib.Core.Path.{◌≡◌, refl, sym, ap, ◌∙◌}
-use Prim.Native.Nat.{ℕ, zero, suc, ◌+◌, ◌*◌, ◌≤◌, ◌<◌}
+use Prim.Native.Nat.{ℕ, zero, suc, ◌+◌, ◌≤◌, ◌<◌}
 use native.Mathlib.Omega.{arith}
 use mathlib.Core.List.{List, [], ◌∷◌}
-use mathlib.Core.Bool.{Bool, true, false, ◌&&◌, cond}
+use mathlib.Core.Bool.{Bool, true, false, ◌&&◌}
 use borrow.Author.Tests.{le-leb, lt-leb, leb-true}
 use lib.ListN.{length}
-use lib.Dec.{leb}
 use Rattle.stun_frame.specs.Source.{field_at, is_stun}
 use Rattle.stun_walk.specs.Source.{Attribute, attributes_from, attributes, inside, readable, padded}
 use Rattle.stun_walk.specs.Scan.{kept, hit_in, scanned}
@@ -90,3 +89,10 @@ module _ (buf : List ℕ) (t p hit : ℕ) (left : Left buf t p hit) where
               within = sym (rw (le-leb (p + 4 + field_at buf (p + 2)) (length buf) h)) ∙ sym (ap (inside buf) (some n)) ∙ w;
               finds = sym (ap (hit_in hit t) (some n)) ∙ f;
             }
+
+-- a value that passes the end, with attributes enough from p on
+pub past_here : (buf : List ℕ) (p fuel : ℕ) → p + 4 ≤ 20 + field_at buf 2 → 20 + field_at buf 2 ≤ length buf → length buf ≤ p + fuel
+    → length buf < p + 4 + field_at buf (p + 2) → inside buf (attributes_from fuel buf p) ≡ false
+unfolding attributes_from
+past_here buf p zero here fits e h = absurd (omega arith)
+past_here buf p (suc n) here fits e h = rw (le-leb (p + 4) (20 + field_at buf 2) here, lt-leb (p + 4 + field_at buf (p + 2)) (length buf) h)

@@ -1,6 +1,6 @@
 -- A message's attributes as RFC 8489 section 14 has them, written from their parts, and what they mean. The header of section
 -- 5 is `stun_message`.
-use Rattle.std.specs.Prelude.{◌≡◌, cond, List, [], ◌∷◌, ◌++◌, ℕ, ◌+◌, ◌*◌, ◌%◌, ◌^◌, ◌<◌, eqb, length, get_or}
+use Rattle.std.specs.Prelude.{◌≡◌, cond, List, [], ◌∷◌, ◌++◌, ℕ, ◌+◌, ◌%◌, ◌^◌, ◌<◌, eqb, length}
 use Rattle.stun_frame.specs.Rfc.{two}
 
 -- section 14: an attribute's type and value, and the bytes that pad it

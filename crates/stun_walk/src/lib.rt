@@ -1,5 +1,7 @@
 // Reading a message: `Message::decode`, `get`, `error_code`, `lifetime`, `xor_addr` and `get_str` of
 // stun.rs (RFC 8489 sections 5 and 14). One pass over the message for each.
+#![tactic(auto)]
+
 ghost use Rattle.std.specs.Prelude.{◌≡◌, cond, true, ◌&&◌, ◌+◌, ◌*◌, ◌%◌, ◌≤◌, ◌<◌, eqb, length, take, drop};
 ghost use Rattle.stun_frame.specs.Source.{field_at};
 ghost use Rattle.stun_walk.specs.Source.{decoded, get_of, error_code_of, lifetime_of, xor_addr_of, get_str_of, padded as «padded_of»};
@@ -10,19 +12,19 @@ use stun_frame::names::{ATTR_ERROR_CODE, ATTR_LIFETIME};
 use stun_text::Replaced;
 
 // The attribute's value: `len` bytes from `start` on.
-#[derive(Drop)]
+#[derive(Clone, Copy)]
 pub enum Found {
     At { start: usize, len: usize },
     Nothing,
 }
 
-#[derive(Drop)]
+#[derive(Clone, Copy)]
 pub enum Code {
     Error(u16),
     NoCode,
 }
 
-#[derive(Drop)]
+#[derive(Clone, Copy)]
 pub enum Granted {
     Seconds(u32),
     NoLifetime,
@@ -30,14 +32,14 @@ pub enum Granted {
 
 // Whether there is such an attribute, and its text, each ill-formed part replaced; of none, the
 // empty text.
-#[derive(Drop)]
+#[derive(Clone, Copy)]
 pub struct Str {
     pub found: bool,
     pub read: Replaced,
 }
 
 // Type and id of a readable message; zeros where it is not.
-#[derive(Drop)]
+#[derive(Clone, Copy)]
 pub struct Decoded {
     pub readable: bool,
     pub typ: u16,
@@ -161,6 +163,7 @@ fn id_of(buf: &[u8]) -> [u8; 12]
 
 // The place of the first attribute of a type, 1 where there is none, 0 where the message is not
 // readable. A value may pass the length field's end, and not the buffer's.
+#[tactic(auto, using(crate::proofs::Walk::past_here, crate::proofs::Walk::past_end))]
 fn scan(buf: &[u8], t: u16) -> usize
     ensures { result ≡ scanned buf.now t }
 {

@@ -1,9 +1,11 @@
 // The attribute walker: a struct that holds a message and a place in it, and thin functions over it. What stands at a
 // place is said by `step_at`, which takes a plain slice and a number.
+#![tactic(auto)]
+
 ghost use Rattle.std.specs.Prelude.{◌≡◌, ◌+◌, ◌*◌};
 ghost use Rattle.stun_walker.specs.Source.{step_of};
 
-#[derive(Drop)]
+#[derive(Clone, Copy)]
 pub enum Step {
     // Its type, its value (`len` bytes from `start` on), and the place after it and its padding.
     Attribute {
@@ -18,7 +20,7 @@ pub enum Step {
     Done,
 }
 
-#[derive(Drop)]
+#[derive(Clone, Copy)]
 pub struct Walker<'a> {
     pub message: &'a [u8],
     pub at: usize,
@@ -74,7 +76,7 @@ pub fn moved<'a>(w: Walker<'a>, at: usize) -> Walker<'a>
     }
 }
 
-// The first step of a message. Its parameter is a plain slice, so who calls it needs no walk by hand.
+// The first step of a message. Its parameter is a plain slice, so a caller needs no walker to begin with.
 pub fn first_step(message: &[u8]) -> Step
     ensures { result ≡ step_of message.now 20 }
 {

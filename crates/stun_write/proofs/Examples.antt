@@ -5,7 +5,7 @@ use mathlib.Core.List.{List, [], ◌∷◌, flat_map}
 use Prim.Native.Nat.{ℕ}
 use Rattle.digest.specs.Digest.{padding, absorbed, result, digest}
 use Rattle.digest.specs.Hmac.{key_block, hmac}
-use Rattle.sha1.specs.Rfc3174.{f, K, schedule, round, rounds, step}
+use Rattle.sha1_digest.specs.Rfc3174.{f, K, schedule, round, rounds, step}
 use Rattle.crc32.specs.Crc.{divide, stream, number, dividend, crc32}
 use Rattle.stun_write.specs.Source.{push_attr, unsigned, signed, with_integrity, with_fingerprint, encoded}
 

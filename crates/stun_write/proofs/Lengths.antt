@@ -10,7 +10,7 @@ use lib.Bits.{bit_xor}
 use Rattle.digest.specs.Bytes.{bytes, big}
 use Rattle.digest.specs.Digest.{padding, blocks, absorbed, result, digest}
 use Rattle.digest.specs.Hmac.{hmac}
-use Rattle.sha1.specs.Rfc3174.{sha1, State, five, schedule, rounds, state, sums, step}
+use Rattle.sha1_digest.specs.Rfc3174.{sha1, State, five, schedule, rounds, state, sums, step}
 use Rattle.crc32.specs.Crc.{crc32}
 use Rattle.stun_frame.specs.Source.{to_be}
 use Rattle.stun_write.specs.Source.{push_attr, attr_size, key_of, header, set_length, with_integrity, with_fingerprint, encoded, integrity, fingerprint_of, fingerprint, integrity_size, fingerprint_size, sealed_size}

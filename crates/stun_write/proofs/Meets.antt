@@ -10,7 +10,7 @@ use lib.Dec.{lit≤}
 use lib.Seq.{take_at}
 use Rattle.digest.specs.Bytes.{bytes, number, big}
 use Rattle.digest.specs.Hmac.{hmac}
-use Rattle.sha1.specs.Rfc3174.{sha1}
+use Rattle.sha1_digest.specs.Rfc3174.{sha1}
 use Rattle.crc32.specs.Crc.{crc32}
 use Rattle.crc32.proofs.Join.{crc32_lt}
 use Rattle.stun_frame.specs.Source.{padding}

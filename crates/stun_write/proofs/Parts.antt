@@ -9,7 +9,7 @@ use lib.ListN.{length, take, drop, replicate, length-append}
 use lib.Seq.{take_at, drop_at, drop-append-add}
 use Rattle.digest.specs.Bytes.{bytes, big}
 use Rattle.digest.specs.Hmac.{hmac}
-use Rattle.sha1.specs.Rfc3174.{sha1}
+use Rattle.sha1_digest.specs.Rfc3174.{sha1}
 use Rattle.stun_frame.specs.Source.{to_be, padding}
 use Rattle.stun_check.specs.Source.{covered}
 use Rattle.stun_write.specs.Source.{push_attr, attr_size, Attribute, attributes, Key, unsigned, signed, header, set_length, with_integrity, with_fingerprint, encoded, integrity, fingerprint, sealed_body}

@@ -11,7 +11,7 @@ use lib.Bits.{bit_xor}
 use lib.Seq.{paste, take_at, drop_at, drop-append-add, take-append-add, take-append-le, drop-append-le, drop-drop, take-length, take-take, take-add, length-take-le, length_paste_head}
 use Rattle.digest.specs.Bytes.{bytes, big}
 use Rattle.digest.specs.Hmac.{hmac}
-use Rattle.sha1.specs.Rfc3174.{sha1}
+use Rattle.sha1_digest.specs.Rfc3174.{sha1}
 use Rattle.crc32.specs.Crc.{crc32}
 use Rattle.stun_frame.specs.Source.{to_be, padding}
 use Rattle.stun_write.specs.Source.{push_attr, attr_size, header, set_length, key_of, with_integrity, with_fingerprint, encoded, integrity_size, fingerprint_size}

@@ -4,7 +4,7 @@ use Rattle.std.specs.Prelude.{◌≡◌, Bool, true, false, List, [], ◌∷◌,
 use Rattle.std.specs.Int.Bits.{bit_xor}
 use Rattle.digest.specs.Bytes.{number, big}
 use Rattle.digest.specs.Hmac.{hmac}
-use Rattle.sha1.specs.Rfc3174.{sha1}
+use Rattle.sha1_digest.specs.Rfc3174.{sha1}
 use Rattle.crc32.specs.Crc.{crc32}
 use Rattle.stun_frame.specs.Rfc.{two, StunParts, stun_message}
 use Rattle.stun_write.specs.Source.{Attribute, Key, unsigned, signed}

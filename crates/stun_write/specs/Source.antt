@@ -4,7 +4,7 @@ use Rattle.std.specs.Prelude.{◌≡◌, Bool, true, false, cond, List, [], ◌�
 use Rattle.std.specs.Int.Bits.{bit_xor}
 use Rattle.digest.specs.Bytes.{bytes, big}
 use Rattle.digest.specs.Hmac.{hmac}
-use Rattle.sha1.specs.Rfc3174.{sha1}
+use Rattle.sha1_digest.specs.Rfc3174.{sha1}
 use Rattle.crc32.specs.Crc.{crc32}
 use Rattle.stun_frame.specs.declared.Written.{Written}
 use Rattle.stun_frame.specs.declared.Written.TheVariants.{Bytes, TooLong, NoRoom}

@@ -1,5 +1,7 @@
 // Messages written into lent room: `push_attr` and `Message::encode` of stun.rs. RFC 8489 sections 5 (header), 14 (attributes),
 // 14.5 (MESSAGE-INTEGRITY) and 14.7 (FINGERPRINT).
+#![tactic(auto)]
+
 ghost use Rattle.std.specs.Prelude.{◌≡◌, ◌++◌, ◌+◌, ◌-◌, ◌≤◌, ◌<◌, length, take, drop};
 ghost use Rattle.std.proofs.Math.Seq.{paste};
 ghost use Rattle.stun_frame.specs.Source.{room_after};

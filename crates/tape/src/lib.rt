@@ -1,5 +1,7 @@
 // The replay tape of document 01: what stands at the front of a window on it. A field is a tag, a two-byte big-endian length and a
 // body of at most 4,096 bytes, so a window of 4,099 holds every field.
+#![tactic(auto)]
+
 ghost use Rattle.std.specs.Prelude.{◌≡◌, [], ◌∷◌, ◌+◌, ◌≤◌, length, take, drop};
 ghost use Rattle.stun_address.specs.Source.{from_be};
 ghost use Rattle.tape.specs.Tape.{only, starts, transport, send, timed, call, meaning};
@@ -8,7 +10,7 @@ ghost use Rattle.tape.specs.Window.{cut, answer, next_of};
 use stun_address::{Address, Ip};
 
 // A field's meaning. Times are milliseconds, a transport is reliable or not.
-#[derive(Drop)]
+#[derive(Clone, Copy)]
 pub enum Piece {
     Username,
     Password,
@@ -24,7 +26,7 @@ pub enum Piece {
 
 // A whole field of `size` bytes, and what it carries: `len` bytes of the window from `start` on. More: the field is not whole
 // yet. End: the tape ends here.
-#[derive(Drop)]
+#[derive(Clone, Copy)]
 pub enum Front {
     Field {
         piece: Piece,
@@ -39,6 +41,7 @@ pub enum Front {
 
 // What stands at the front of the window, with `stage` fields of the opening behind it: username, password, transport, or all
 // three. Where `ended`, no more input comes.
+#[tactic(auto, using(crate::proofs::Bodies::next_long))]
 pub fn next(stage: u8, window: &[u8], ended: bool) -> Front
     ensures { result ≡ next_of stage window.now ended }
 {
@@ -187,6 +190,7 @@ fn at_time(tag: u8, time: u64, body: &[u8]) -> Front
     Front::Bad
 }
 
+#[tactic(auto, using(crate::proofs::Bodies::send_v6))]
 fn sent(time: u64, body: &[u8]) -> Front
     requires { length body.now ≤ 4096 }
     ensures { result ≡ answer (send time body.now) (length body.now) }

@@ -1,0 +1,34 @@
+-- `stun_check::verify` meets its contract: the header and the rest are the two parts of what the definition covers.
+use mathlib.Core.Path.{◌≡◌, refl, ap, ◌∙◌}
+use Prim.Native.Nat.{ℕ, ◌+◌, ◌-◌, ◌%◌, ◌≤◌}
+use native.Mathlib.Omega.{arith}
+use lib.ListN.{length, take, drop}
+use Rattle.digest.specs.Hmac.{hmac}
+use Rattle.sha1_digest.specs.Rfc3174.{sha1}
+use Rattle.stun_check.specs.Source.{same, covered}
+use Rattle.stun_check.proofs.Parts.{covered_is, signed, too_short, verified_is}
+use Rattle.stun_check.proofs.verify.Goals as goal
+
+pub returns-then-buf-p-lt24 : goal.returns-then-buf-p-lt24
+returns-then-buf-p-lt24 c =
+    too_short c.args.buf.now c.args.key.now (omega (arith, c.integrity-p.ensures.value))
+
+pub overflow_add-p : goal.overflow_add-p
+overflow_add-p c = omega (arith, c)
+
+pub overflow_add-p-2 : goal.overflow_add-p-2
+overflow_add-p-2 c = omega (arith, c)
+
+pub returns : goal.returns
+returns c =
+    let b = c.args.buf.now in
+    let key = c.args.key.now in
+    let p = c.integrity-p.result in
+    let in-range : p + 24 ≤ length b = omega (arith, c) in
+    let n : p + 24 - (p + 4) ≡ 20 = omega arith in
+    let mac : c.finish-mac.result ≡ hmac sha1 key (covered b p) =
+    signed key _ _ _ _ _ _ c.new.ensures c.update.ensures c.update-2.ensures c.finish-mac.ensures
+    ∙ ap (hmac sha1 key) (covered_is b p ((p + 4) % 65536) (omega (arith, c)) (omega (arith, c)) refl) in
+    c.same.ensures
+    ∙ ap (λ (k : ℕ). same c.finish-mac.result (take k (drop (p + 4) b))) n
+    ∙ verified_is b key c.finish-mac.result p c.integrity-p.ensures.value in-range mac
