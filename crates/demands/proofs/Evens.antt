@@ -1,21 +1,19 @@
 -- Two clients of the definition that differ in password and key alone answer calls that are alike with the same number and events, and with
 -- packets that are alike, and differ in no more afterwards.
-use mathlib.Core.Path.{◌≡◌, refl, ap, ap₂, sym, subst, ◌∙◌}
-use mathlib.Core.Bool.{Bool, true, false, cond, ◌&&◌, ◌||◌, not}
-use mathlib.Core.List.{List, [], ◌∷◌, ◌++◌}
-use mathlib.Core.Option.{Option, none, some}
+use mathlib.Core.Path.{◌≡◌, refl, ap, sym, ◌∙◌}
+use mathlib.Core.Bool.{Bool, true, false}
+use mathlib.Core.List.{List, [], ◌∷◌}
+use mathlib.Core.Option.{Option}
 use Prim.Native.Nat.{ℕ, ◌+◌, ◌≤◌, ◌<◌}
 use native.Mathlib.Omega.{arith}
 use lib.ListN.{length, length-append}
-use lib.Dec.{ltb, leb, eqb}
-use borrow.Author.Tests.{leb-true, leb-false, eqb-true, eqb-false, ltb-false}
-use Rattle.stun_frame.specs.Source.{to_be}
-use Rattle.turn_state.specs.declared.Event.{Event}
+use lib.Dec.{leb, eqb}
+use borrow.Author.Tests.{leb-false, eqb-true, eqb-false, ltb-false}
 use Rattle.turn_state.specs.State.{Turn, Run, begin, ids_in}
 use Rattle.turn_state.specs.Source.{handle}
 use Rattle.turn_state.specs.Number.{Given, Outcome, number, framed}
 use Rattle.turn_state.specs.Sequence.{Call, Start, Handle, Send, Poll, TransportFailed, Close, outcome}
-use Rattle.turn_state.specs.View.{Each, no_rows, row}
+use Rattle.turn_state.specs.View.{Each}
 use Rattle.turn.proofs.Kept.{lent_kept}
 use Rattle.turn.proofs.Refused.{Unmoved, refused, refusal, done, given_of, run_of, no_condition, late, here, there}
 use Rattle.demands.specs.History.{Pairs, none as no_pairs, pair}

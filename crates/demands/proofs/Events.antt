@@ -11,7 +11,6 @@ use Rattle.stun_frame.specs.declared.classes.Class.TheVariants.{Request, Indicat
 use Rattle.stun_frame.specs.declared.Channel.{Channel}
 use Rattle.stun_frame.specs.declared.Channel.TheVariants.{Data as ChannelOf, Nothing as NoChannel}
 use Rattle.stun_frame.specs.Source.{class, field_at, decode_channel_data}
-use Rattle.stun_address.specs.declared.Ip.{Ip}
 use Rattle.stun_address.specs.declared.Address.{Address}
 use Rattle.stun_address.specs.declared.Peer.{Peer}
 use Rattle.stun_address.specs.declared.Peer.TheVariants.{At, Nothing as NoPeer}
@@ -23,10 +22,10 @@ use Rattle.turn_state.specs.declared.Kind.TheVariants.{Allocate, Refresh, Permis
 use Rattle.turn_state.specs.declared.Reason.{Reason}
 use Rattle.turn_state.specs.declared.Reason.TheVariants.{Code as ErrorCode, Timeout, NoRelayedAddress, Lost}
 use Rattle.turn_state.specs.declared.Event.{Event}
-use Rattle.turn_state.specs.declared.Event.TheVariants.{Allocated, Failed, Data}
-use Rattle.turn_state.specs.Maps.{get, contains, insert, remove, filter, each, if_let, is_some}
-use Rattle.turn_state.specs.State.{Message, Txn, Perm, Chan, Turn, Run, begin, set_txns, set_perms, set_chans, set_next_num, set_refresh_at, set_closing, set_done, on_self, drew, new_tid, tell}
-use Rattle.turn_state.specs.Source.{under_id, for_ip, for_peer, of_number, insert_txn, insert_perm, insert_chan, push_message, encode, request, start, bind_channel, create_permission, on_failure, update_chan, bound_at, waiting, allocated, on_success, code_or_0, get_str, take_realm, take_nonce, retry, answered, is_answer, passed, tid_of, answer, indicated, handle_message, handle_channel, handle, new_channel, send_indication, send_data, send, poll, transport_failed, close}
+use Rattle.turn_state.specs.declared.Event.TheVariants.{Failed, Data}
+use Rattle.turn_state.specs.Maps.{get, contains, remove, filter, if_let, is_some}
+use Rattle.turn_state.specs.State.{Txn, Perm, Chan, Turn, Run, begin, set_txns, set_next_num, on_self}
+use Rattle.turn_state.specs.Source.{under_id, for_ip, for_peer, of_number, insert_perm, insert_chan, start, bind_channel, create_permission, on_failure, waiting, allocated, on_success, code_or_0, get_str, take_realm, retry, answered, is_answer, passed, tid_of, answer, indicated, handle_message, handle_channel, handle, new_channel, send_indication, send_data, send, transport_failed, close}
 use Rattle.turn_state.specs.Sequence.{Call, Start, Handle, Send, Poll, TransportFailed, Close}
 use Rattle.turn_state.specs.View.{Each, no_rows, row, told}
 use Rattle.turn.proofs.Steps.{each_keeps, if_there, either_way, add_ev, inserted_ev}

@@ -1,7 +1,7 @@
 -- Demand 1: what each contract says, along a history.
-use mathlib.Core.Path.{◌≡◌, refl, ap, sym, subst, ◌∙◌}
+use mathlib.Core.Path.{◌≡◌, ap, subst, ◌∙◌}
 use mathlib.Core.Bool.{Bool, true, false, cond, ◌||◌, not}
-use mathlib.Core.List.{List, [], ◌∷◌, ◌++◌}
+use mathlib.Core.List.{List, [], ◌++◌}
 use Prim.Native.Nat.{ℕ, ◌≤◌}
 use native.Mathlib.Omega.{arith}
 use lib.ListN.{length, drop}
@@ -9,17 +9,15 @@ use lib.Dec.{ltb, eqb}
 use borrow.Author.Tests.{ne_eqb}
 use Rattle.stun_text.specs.Utf8.{well_formed}
 use Rattle.turn_state.specs.declared.Client.{Client}
-use Rattle.turn_state.specs.declared.Event.{Event}
 use Rattle.turn_state.specs.Source.{next_deadline}
 use Rattle.turn_state.specs.State.{Turn, Run, ids_in}
-use Rattle.turn_state.specs.Number.{Given, Outcome, above, full, clash, pending, number, framed, open_number}
-use Rattle.turn_state.specs.Sequence.{Call, outcome}
+use Rattle.turn_state.specs.Number.{Given, above, full, clash, pending, number, framed, open_number}
+use Rattle.turn_state.specs.Sequence.{outcome}
 use Rattle.turn_state.specs.View.{view, either, told}
 use Rattle.turn_deadline.specs.Times.{deadline_of}
-use Rattle.turn_open.specs.declared.Opened.{Opened}
 use Rattle.turn.proofs.Refused.{Unmoved, refused, refusal, given_of, run_of, opening_refused}
-use Rattle.demands.specs.History.{Step, Allowed, Along, end, next, History}
-use Rattle.demands.specs.Demand1.{Unchanged, Numbered, Answered, Demand1}
+use Rattle.demands.specs.History.{Step, Allowed, Along, end, next}
+use Rattle.demands.specs.Demand1.{Unchanged, Numbered, Demand1}
 
 -- the first of a list of conditions is one of their numbers
 chosen : (b : Bool) (n m : ℕ) → n ≤ 8 → m ≤ 8 → cond b n m ≤ 8

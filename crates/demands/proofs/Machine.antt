@@ -1,13 +1,13 @@
 -- Machine numbers: the steps of a call keep `Fits` (Kept), so every accepted call does, and a refused one hands the client back.
-use mathlib.Core.Path.{◌≡◌, refl, ap, sym, subst, ◌∙◌}
+use mathlib.Core.Path.{◌≡◌, refl, sym, subst}
 use mathlib.Core.Logic.{◌⊎◌, inl, inr}
 use mathlib.Core.Bool.{Bool, true, false, cond}
-use mathlib.Core.List.{List, [], ◌∷◌}
-use mathlib.Core.Option.{Option, none, some}
-use Prim.Native.Nat.{ℕ, zero, suc, ◌+◌, ◌-◌, ◌*◌, ◌/◌, ◌%◌, ◌^◌, ◌≤◌, ◌<◌, min, max}
+use mathlib.Core.List.{List, []}
+use mathlib.Core.Option.{Option, none}
+use Prim.Native.Nat.{ℕ, zero, suc, ◌+◌, ◌*◌, ◌%◌, ◌^◌, ◌≤◌, ◌<◌}
 use native.Mathlib.Omega.{arith}
 use lib.ListN.{get_or}
-use lib.Dec.{leb, ltb, eqb}
+use lib.Dec.{leb, ltb}
 use borrow.Author.Tests.{leb-false, ltb-false}
 use Rattle.stun_frame.specs.Source.{field_at}
 use Rattle.stun_walk.specs.declared.Found.{Found}
@@ -18,15 +18,13 @@ use Rattle.stun_walk.specs.Source.{get_of, code_in, error_code_of, lifetime_in, 
 use Rattle.turn_state.specs.declared.Client.{Client}
 use Rattle.turn_state.specs.State.{Txn, Perm, Chan, Turn, begin, set_txns, set_perms, set_chans, set_refresh_at}
 use Rattle.turn_state.specs.Source.{under_id, under_drawn, for_ip, for_peer, first_wait, repeated, granted_or, refresh_time, RELIABLE_TIMEOUT, PERMISSION_REFRESH, CHANNEL_REFRESH, MAX_TRIES}
-use Rattle.turn_state.specs.Number.{Outcome, number, opened}
 use Rattle.turn_state.specs.Sequence.{Call, Start, Handle, Send, Poll, TransportFailed, Close, outcome}
 use Rattle.turn_state.specs.View.{view, Each, no_rows, row}
-use Rattle.turn_open.specs.declared.Opened.{Opened}
 use Rattle.turn.proofs.Refused.{given_of, run_of, no_condition, here}
 use Rattle.turn.proofs.Rows.{each_insert, each_remove, each_get}
 use Rattle.turn.proofs.Calls.{call_keeps, opening_keeps}
 use Rattle.turn.proofs.Kept.{Renewal, not_yet, later, Fact, Keeps, time_of, datagram_of, method_kept}
-use Rattle.demands.specs.History.{Bytes, Typed, Step, Allowed, Along, end, next, History}
+use Rattle.demands.specs.History.{Bytes, Typed, Step, Allowed, Along, end, next}
 use Rattle.demands.specs.Machine.{LAST_TIME, Within, WithinIf, KindFits, TxnFits, ChanFits, LONGEST, Fits, CodeFits, LifetimeFits, ReadFits, LongestFits, MachineNumbers}
 
 -- a byte of a list of bytes, or the 0 that stands for none

@@ -2,13 +2,13 @@
 -- First an example: a failed bind, whose number names no peer afterwards.
 use mathlib.Core.Path.{◌≡◌, refl, ap, sym, subst, ◌∙◌}
 use mathlib.Core.Bool.{Bool, true, false, cond, ◌&&◌, ◌||◌, not}
-use mathlib.Core.List.{List, [], ◌∷◌, map, ◌++◌}
+use mathlib.Core.List.{List, [], ◌∷◌, map}
 use mathlib.Core.Option.{Option, none, some}
 use Prim.Native.Nat.{ℕ, ◌+◌, ◌≤◌}
 use native.Mathlib.Omega.{arith}
 use lib.ListN.{length}
 use lib.Dec.{leb, ltb, eqb}
-use borrow.Author.Tests.{leb-true, not-true, eqb-true, eq-eqb, ne_eqb}
+use borrow.Author.Tests.{leb-true, not-true, eqb-true, eq-eqb}
 use Rattle.stun_frame.specs.declared.classes.Class.{Class}
 use Rattle.stun_frame.specs.declared.classes.Class.TheVariants.{Request, Indication, Success, Error}
 use Rattle.stun_frame.specs.declared.Channel.{Channel}
@@ -28,8 +28,8 @@ use Rattle.turn_state.specs.declared.Reason.{Reason}
 use Rattle.turn_state.specs.declared.Reason.TheVariants.{Code as ErrorCode, Timeout, NoRelayedAddress}
 use Rattle.turn_state.specs.declared.Event.TheVariants.{Data}
 use Rattle.turn_state.specs.Maps.{get, contains, insert, remove, filter, each, if_let, is_some}
-use Rattle.turn_state.specs.State.{Message, Txn, Perm, Chan, Turn, Run, begin, set_txns, set_perms, set_chans, set_next_num, set_refresh_at, set_closing, on_self, drew, new_tid, tell}
-use Rattle.turn_state.specs.Source.{new, under_id, for_ip, for_peer, of_number, peer_of, insert_txn, insert_perm, insert_chan, push_message, encode, request, start, bind_channel, create_permission, on_failure, update_chan, bound_at, renewed_at, waiting, allocated, on_success, code_or_0, get_str, take_realm, take_nonce, retry, answered, is_answer, passed, tid_of, answer, indicated, handle_message, handle_channel, handle, new_channel, send_indication, send_data, send, is_due, repeated, MAX_TRIES, poll_due, poll_refresh, poll_perms, renew_channel, poll_chans, due_of, poll, transport_failed, close}
+use Rattle.turn_state.specs.State.{Message, Txn, Perm, Chan, Turn, Run, begin, set_txns, set_perms, set_chans, set_next_num, on_self, tell}
+use Rattle.turn_state.specs.Source.{new, under_id, for_ip, for_peer, of_number, peer_of, insert_txn, insert_perm, insert_chan, push_message, encode, request, start, bind_channel, create_permission, on_failure, update_chan, bound_at, renewed_at, waiting, allocated, on_success, code_or_0, get_str, take_realm, retry, answered, is_answer, passed, tid_of, answer, indicated, handle_message, handle_channel, handle, new_channel, send_indication, send_data, send, is_due, repeated, MAX_TRIES, poll_due, poll_refresh, poll_perms, renew_channel, poll_chans, due_of, poll, transport_failed, close}
 use Rattle.turn_state.specs.Sequence.{Call, Start, Handle, Send, Poll, TransportFailed, Close}
 use Rattle.turn.proofs.Steps.{never, both, each_keeps, due_keeps, if_there, either_way, add_self, inserted}
 use Rattle.turn.proofs.Keys.{Unique, none_yet, one_more, unique_insert, unique_remove}
@@ -37,7 +37,7 @@ use Rattle.turn.proofs.Channels.{Climb, climb_remove, by_num_remove, by_num_miss
 use Rattle.turn.proofs.Kept.{bound_num, bound_peer}
 use Rattle.turn.proofs.Numbers.{bind_chans, new_by_num}
 use Rattle.turn.proofs.Refused.{method_of}
-use Rattle.demands.specs.Rust.{Named, under_num, named, Whole, on_run, on_by_num, rust_on_failure, rust_answered, rust_answer, rust_handle_message, rust_handle_channel, rust_handle, rust_new_channel, rust_send, rust_poll_due, rust_poll, rust_method}
+use Rattle.demands.specs.Rust.{Named, under_num, named, Whole, on_run, rust_on_failure, rust_answered, rust_answer, rust_handle_message, rust_handle_channel, rust_handle, rust_new_channel, rust_send, rust_poll_due, rust_poll, rust_method}
 
 -- a peer's bind of the number 0x4000, that fails
 abbrev peer : Address

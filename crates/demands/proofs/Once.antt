@@ -41,6 +41,8 @@ one_step c s t tidy a b e =
 
 one_steps : (c : Client) (steps others : List Step) → Tidy c → Along Allowed c steps → Along Allowed c others → Pairs SameGiven steps others → steps ≡ others
 one_steps c [] [] tidy a b none = refl
+one_steps c [] (t ∷ rest) tidy a b e = elim e [ ]
+one_steps c (s ∷ more) [] tidy a b e = elim e [ ]
 one_steps c (s ∷ more) (t ∷ rest) tidy (next a m) (next b n) (pair e es) =
     let same : s ≡ t = one_step c s t tidy a b e in
     let moved : Along Allowed s.answer.client rest = subst (λ (u : Step). Along Allowed u.answer.client rest) (sym same) n in

@@ -2,19 +2,16 @@
 -- over values, and no two of its attributes share a byte. First two examples: messages that differ in a FINGERPRINT of 4 bytes are alike,
 -- those that differ in one that declares 5 are not.
 use mathlib.Core.Path.{◌≡◌, refl, ap, ap₂, sym, subst, ◌∙◌}
-use mathlib.Core.Bool.{Bool, true, false, cond, ◌&&◌, ◌||◌, not}
+use mathlib.Core.Bool.{Bool, true, false, cond, ◌&&◌, ◌||◌}
 use mathlib.Core.List.{List, [], ◌∷◌}
-use mathlib.Core.Option.{Option, none, some}
-use Prim.Native.Nat.{ℕ, zero, suc, ◌+◌, ◌*◌, ◌-◌, ◌/◌, ◌%◌, ◌≤◌, ◌<◌, min}
+use mathlib.Core.Option.{some}
+use Prim.Native.Nat.{ℕ, zero, suc, ◌+◌, ◌*◌, ◌-◌, ◌≤◌, ◌<◌, min}
 use native.Mathlib.Omega.{arith}
 use lib.ListN.{length, get_or, take, drop, length-take, length-drop}
 use lib.Seq.{ext_get_or, get_or-take, get_or-drop}
 use lib.Dec.{ltb, leb, eqb}
-use lib.Bits.{bit_and}
 use borrow.Author.Tests.{leb-true, le-leb, lt-leb, le-ltb, lt-ltb, eqb-true, ne_eqb}
-use Rattle.stun_frame.specs.declared.Channel.{Channel}
 use Rattle.stun_frame.specs.Source.{is_stun, is_channel_data, field_at, from_be, decode_channel_data}
-use Rattle.stun_address.specs.declared.Peer.{Peer}
 use Rattle.stun_walk.specs.declared.Found.{Found}
 use Rattle.stun_walk.specs.declared.Found.TheVariants.{At, Nothing}
 use Rattle.stun_walk.specs.Source.{Attribute, padded, attributes_from, attributes, inside, readable, first, get_of, code_in, error_code_of, lifetime_in, lifetime_of, address_in, xor_addr_of}

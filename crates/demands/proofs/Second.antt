@@ -2,30 +2,26 @@
 use mathlib.Core.Path.{◌≡◌, refl, ap, sym, subst, ◌∙◌}
 use mathlib.Core.Bool.{Bool, true, false, cond}
 use mathlib.Core.List.{List, [], ◌∷◌, ◌++◌, map}
-use mathlib.Core.Option.{Option}
 use Prim.Native.Nat.{ℕ, ◌≤◌}
 use native.Mathlib.Omega.{arith}
 use lib.ListN.{length, drop, replicate}
 use lib.Dec.{eqb}
 use borrow.Author.Tests.{eqb-true, ltb-false}
 use Rattle.turn_state.specs.declared.Client.{Client}
-use Rattle.turn_state.specs.declared.Event.{Event}
-use Rattle.turn_state.specs.State.{Turn, Chan, Run, begin, ids_in}
+use Rattle.turn_state.specs.State.{Turn, Run, begin, ids_in}
 use Rattle.turn_state.specs.Source.{peer_of, new, next_deadline}
 use Rattle.turn_state.specs.Number.{Outcome, number, framed, open_number, opened}
 use Rattle.turn_state.specs.Sequence.{Call, Start, Handle, Send, Poll, TransportFailed, Close, outcome}
 use Rattle.turn_state.specs.View.{view, told}
 use Rattle.turn_deadline.specs.Times.{deadline_of}
-use Rattle.turn_open.specs.declared.Opened.{Opened}
 use Rattle.turn.proofs.Keys.{none_yet}
-use Rattle.turn.proofs.Channels.{Climb}
 use Rattle.turn.proofs.Numbers.{Numbered, call_kept, opened_numbered}
 use Rattle.turn.proofs.Refused.{given_of, run_of, refusal, done, no_condition, here, there, opening_done}
-use Rattle.demands.specs.History.{Step, Allowed, Along, end, next, Pairs, none, pair, History}
-use Rattle.demands.specs.Rust.{Named, named, Rust, Whole, Gives, gives, rust_method, ids_of, rust_call, rust_new, rust}
+use Rattle.demands.specs.History.{Step, Allowed, Along, end, next, Pairs, none, pair}
+use Rattle.demands.specs.Rust.{named, Rust, rust_method, ids_of, rust_call, rust_new, rust}
 use Rattle.demands.specs.Demand2.{Shows, accepted, Demand2}
 use Rattle.demands.proofs.First.{step_numbered}
-use Rattle.demands.proofs.Names.{UniqueNames, Tie, Tied, with_names, method_tied}
+use Rattle.demands.proofs.Names.{UniqueNames, Tied, with_names, method_tied}
 use Rattle.demands.proofs.Events.{OneEvent, one_event}
 
 same_ids : (call : Call) → ids_of call ≡ (given_of call).ids

@@ -1,25 +1,23 @@
 -- Demand 3: two histories, step by step.
-use mathlib.Core.Path.{◌≡◌, refl, ap, ap₂, sym, subst, ◌∙◌}
-use mathlib.Core.Bool.{Bool, true, false, cond}
+use mathlib.Core.Path.{◌≡◌, refl, ap, ap₂, sym, ◌∙◌}
+use mathlib.Core.Bool.{Bool, true, false}
 use mathlib.Core.List.{List, [], ◌∷◌, ◌++◌, append_assoc}
-use mathlib.Core.Option.{Option, none, some}
-use Prim.Native.Nat.{ℕ, zero, suc, ◌+◌, ◌*◌, ◌/◌, ◌%◌, ◌≤◌}
+use mathlib.Core.Option.{Option, none}
+use Prim.Native.Nat.{ℕ, suc, ◌+◌, ◌*◌, ◌/◌, ◌%◌}
 use native.Mathlib.Omega.{arith}
 use lib.ListN.{length, take, drop, replicate, length-replicate}
 use lib.Seq.{take_at, drop_at}
-use Rattle.stun_frame.specs.Source.{field_at, to_be}
 use Rattle.turn_state.specs.declared.Client.{Client}
 use Rattle.turn_state.specs.Maps.{is_some}
 use Rattle.turn_state.specs.State.{Turn}
 use Rattle.turn_state.specs.Source.{new, next_deadline}
-use Rattle.turn_state.specs.Number.{Outcome, framed, open_number, opened}
+use Rattle.turn_state.specs.Number.{framed}
 use Rattle.turn_state.specs.Sequence.{outcome}
-use Rattle.turn_state.specs.View.{view, told, held, text_in, no_text, absent, either, no_rows, Tidy, TidyCredentials, TidyText, Sized}
+use Rattle.turn_state.specs.View.{view, told, held, text_in, no_text, absent, no_rows, Tidy, Sized}
 use Rattle.turn_state.proofs.Same.{same_client}
 use Rattle.turn_deadline.specs.Times.{deadline_of}
-use Rattle.turn_open.specs.declared.Opened.{Opened}
 use Rattle.turn.proofs.Refused.{opening_done}
-use Rattle.demands.specs.History.{Step, Allowed, Along, end, next, Pairs, none as no_pairs, pair, History}
+use Rattle.demands.specs.History.{Step, Allowed, Along, end, next, Pairs, none as no_pairs, pair}
 use Rattle.demands.specs.Alike.{Alike}
 use Rattle.demands.specs.Demand3.{Beside, end as both_end, next as both_next, Given, unframed, sent, without_secrets, Agree, Demand3}
 use Rattle.demands.proofs.Levels.{Held, no_key, keys}
@@ -149,6 +147,8 @@ module _ (c d : Client) (s t : Step) (e : Even (view c) (view d)) (tc : Tidy c) 
 
 beside : (c d : Client) (steps others : List Step) → Even (view c) (view d) → Tidy c → Tidy d → Along Allowed c steps → Along Allowed d others → Beside Given c d steps others → Beside Agree c d steps others
 beside c d [] [] e tc td end end both_end = both_end
+beside c d [] (t ∷ rest) e tc td _ _ g = elim g [ ]
+beside c d (s ∷ more) [] e tc td _ _ g = elim g [ ]
 beside c d (s ∷ more) (t ∷ rest) e tc td (next a m) (next b n) (both_next g gs) =
     both_next (agree c d s t e tc td a b g)
     (beside s.answer.client t.answer.client more rest (later c d s t e tc td a b g) (a.contract.tidy tc) (b.contract.tidy td) m n gs)

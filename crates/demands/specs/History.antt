@@ -3,7 +3,6 @@
 use Rattle.std.specs.Prelude.{◌≡◌, Bool, List, [], ◌∷◌, ℕ, ◌<◌, ◌^◌, length}
 use Rattle.stun_address.specs.declared.Ip.{Ip}
 use Rattle.stun_address.specs.declared.Ip.TheVariants.{V4, V6}
-use Rattle.stun_address.specs.declared.Address.{Address}
 use Rattle.turn_state.specs.declared.Client.{Client}
 use Rattle.turn_state.specs.declared.Answer.{Answer}
 use Rattle.turn_state.specs.Source.{next_deadline}

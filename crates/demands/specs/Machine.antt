@@ -1,7 +1,7 @@
 -- The naturals of the definition are the source's machine numbers: in every history what a client holds, and what is read of a datagram,
 -- stays within the types of turn.rs and stun.rs (u16, u32, and an Instant as milliseconds in 64 bits). So no sum of the source leaves
 -- its type in an accepted call: each is held in the client that the call hands back, or below what is.
-use Rattle.std.specs.Prelude.{◌≡◌, Bool, List, ℕ, ◌+◌, ◌-◌, ◌*◌, ◌^◌, ◌≤◌, ◌<◌}
+use Rattle.std.specs.Prelude.{Bool, List, ℕ, ◌+◌, ◌-◌, ◌*◌, ◌^◌, ◌≤◌, ◌<◌}
 use Rattle.std.proofs.Math.Option.{Option, none, some}
 use Rattle.stun_walk.specs.declared.Code.{Code}
 use Rattle.stun_walk.specs.declared.Code.TheVariants.{Error, NoCode}

@@ -1,6 +1,6 @@
 -- turn.rs with its second map, `by_num`, from a channel's number to its peer. Source has every method; here stand again, under the same
 -- names, those that put into it, take out of it or look into it, and those that call them. No number, room or limit is read.
-use Rattle.std.specs.Prelude.{Bool, true, false, cond, ◌&&◌, ◌||◌, not, List, [], ◌∷◌, ℕ, ◌+◌, length, leb, eqb}
+use Rattle.std.specs.Prelude.{Bool, false, cond, ◌&&◌, ◌||◌, not, List, [], ◌∷◌, ℕ, ◌+◌, length, leb, eqb}
 use Rattle.std.proofs.Math.Option.{Option, none, some}
 use Rattle.stun_frame.specs.declared.classes.Class.{Class}
 use Rattle.stun_frame.specs.declared.classes.Class.TheVariants.{Request, Indication, Success, Error}

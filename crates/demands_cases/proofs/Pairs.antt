@@ -9,8 +9,8 @@ use lib.ListN.{length, take, replicate}
 use lib.Dec.{eqb}
 use Rattle.digest.specs.Digest.{padding, absorbed, result, digest}
 use Rattle.digest.specs.Hmac.{key_block, hmac}
-use Rattle.sha1.specs.Rfc3174.{f, K, schedule, round, rounds, step}
-use Rattle.md5.specs.Rfc1321.{T, operation, turn, turns, step as md5_step}
+use Rattle.sha1_digest.specs.Rfc3174.{f, K, schedule, round, rounds, step}
+use Rattle.md5_digest.specs.Rfc1321.{T, operation, turn, turns, step as md5_step}
 use Rattle.crc32.specs.Crc.{dividend, divide, stream, number as number_of, crc32}
 use Rattle.stun_frame.specs.Source.{class, is_stun, is_channel_data, decode_channel_data}
 use Rattle.stun_address.specs.declared.Ip.TheVariants.{V4}

@@ -3,15 +3,14 @@
 use mathlib.Core.Path.{◌≡◌, refl, ap}
 use mathlib.Core.Bool.{Bool, true, false, cond}
 use mathlib.Core.List.{List, [], ◌∷◌}
-use mathlib.Core.Option.{Option, none, some}
+use mathlib.Core.Option.{none, some}
 use Prim.Native.Nat.{ℕ, suc, ◌≤◌, ◌<◌}
 use native.Mathlib.Omega.{arith}
 use lib.Dec.{eqb}
 use borrow.Author.Tests.{eqb-true, ne_eqb}
-use Rattle.stun_address.specs.declared.Address.{Address}
 use Rattle.turn_state.specs.Maps.{get, contains, insert, remove, if_let}
 use Rattle.turn_state.specs.State.{Chan}
-use Rattle.turn_state.specs.Source.{for_peer, of_number, peer_of}
+use Rattle.turn_state.specs.Source.{for_peer, peer_of}
 use Rattle.turn.proofs.Steps.{never}
 
 -- numbers from `low` on, rising, below `next`

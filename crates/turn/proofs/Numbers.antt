@@ -1,7 +1,7 @@
 -- Every call keeps the channels' numbers: from 0x4000 to 0x7FFF, rising, and all below the next one, which never falls. So none is
 -- reused, and `by_num` (Channels) is told by the channels in every client that calls lead to.
 use mathlib.Core.Path.{◌≡◌, refl, ap, sym, subst, ◌∙◌}
-use mathlib.Core.Bool.{Bool, true, false, cond}
+use mathlib.Core.Bool.{Bool, false, cond}
 use mathlib.Core.List.{List}
 use mathlib.Core.Option.{Option, none, some}
 use Prim.Native.Nat.{ℕ, suc, ◌+◌, ◌≤◌}

@@ -96,10 +96,12 @@ pub data Rising : ℕ → List (ℕ × Bool) → Type 0 where
   next : (low n : ℕ) {b : Bool} {more : List (ℕ × Bool)} → low < n → Rising n more → Rising low ((n, b) ∷ more)
 
 rising_above : {low : ℕ} {l : List (ℕ × Bool)} {m : ℕ} {b : Bool} → Rising low l → Among (m, b) l → low < m
+rising_above end a = elim a [ ]
 rising_above (next low n h r) here = h
 rising_above (next low n h r) (there a) = let z = rising_above r a in omega arith
 
 first_lowest : {low : ℕ} {l : List (ℕ × Bool)} (m : ℕ) → Rising low l → Among (m, true) l → first l ≤ m
+first_lowest m end a = elim a [ ]
 first_lowest m (next low n {b = true} h r) here = omega arith
 first_lowest m (next low n {b = true} h r) (there a) = let z = rising_above r a in omega arith
 first_lowest m (next low n {b = false} h r) (there a) = first_lowest m r a
@@ -110,6 +112,7 @@ first_held (next low n {b = true} h r) z = here
 first_held (next low n {b = false} h r) z = there (first_held r z)
 
 first_none : {low : ℕ} {l : List (ℕ × Bool)} (m : ℕ) (b : Bool) → Rising low l → first l ≡ 0 → Among (m, b) l → b ≡ false
+first_none m b end z a = elim a [ ]
 first_none m true (next low n h r) z here = let f : ⊥ = omega arith in absurd f
 first_none m false (next low n h r) z here = refl
 first_none m b (next low n {b = true} h r) z (there a) = let f : ⊥ = omega (arith, h) in absurd f

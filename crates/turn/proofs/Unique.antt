@@ -1,20 +1,18 @@
 -- In every client that calls lead to, the lists are maps: no permission has the IP, no channel the peer and no request the id of another,
 -- and no request has an id that was not lent.
 use mathlib.Core.Path.{◌≡◌, refl, ap, sym, subst, ◌∙◌}
-use mathlib.Core.Bool.{Bool, true, false, cond}
+use mathlib.Core.Bool.{Bool}
 use mathlib.Core.List.{List, [], ◌∷◌, ◌++◌}
-use mathlib.Core.Option.{some}
 use Prim.Native.Nat.{ℕ, ◌+◌, ◌-◌, ◌*◌, ◌≤◌, ◌<◌, min}
 use native.Mathlib.Omega.{arith}
 use lib.ListN.{length, take, drop, length-append, length-take, length-drop}
-use lib.Dec.{eqb}
-use borrow.Author.Tests.{lt-ltb, ltb-false, eqb-true}
+use borrow.Author.Tests.{lt-ltb, ltb-false}
 use Rattle.stun_check.specs.Source.{same}
-use Rattle.turn_state.specs.Maps.{get, insert, remove}
+use Rattle.turn_state.specs.Maps.{insert}
 use Rattle.turn_state.specs.State.{Txn, Perm, Chan, Turn, Run, begin, ids_in, id_at}
 use Rattle.turn_state.specs.Source.{same_ip, same_address, under_id, under_drawn, for_ip, for_peer, repeated}
 use Rattle.turn_state.specs.Number.{opened}
-use Rattle.turn_state.specs.View.{Each, no_rows, row}
+use Rattle.turn_state.specs.View.{Each, no_rows}
 use Rattle.turn_state.specs.Sequence.{Call, outcome, after}
 use Rattle.turn.proofs.Keys.{Unique, none_yet, unique_insert, unique_remove, unique_written, same_sound, same_whole, ip_sound, ip_whole, address_sound, address_whole}
 use Rattle.turn.proofs.Rows.{each_insert, each_remove, each_get}

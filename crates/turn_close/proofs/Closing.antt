@@ -1,32 +1,30 @@
 -- The answers of a close: nothing without a relay or once closing; else a number, or the Refresh of 0 and a client without requests.
 use mathlib.Core.Path.{◌≡◌, refl, ap, sym, ◌∙◌}
-use mathlib.Core.Bool.{Bool, true, false, cond, ◌||◌, not}
-use mathlib.Core.List.{List, [], ◌∷◌, ◌++◌, map, append-nil}
-use mathlib.Core.Option.{Option, none, some}
-use Prim.Native.Nat.{ℕ, ◌+◌, ◌-◌, ◌*◌, ◌≤◌, ◌<◌, min}
+use mathlib.Core.Bool.{true, false, cond}
+use mathlib.Core.List.{List, [], ◌∷◌, ◌++◌}
+use Prim.Native.Nat.{ℕ, ◌+◌, ◌-◌, ◌≤◌}
 use native.Mathlib.Omega.{arith}
-use lib.ListN.{length, take, drop, replicate, length-take, length-append}
-use lib.Dec.{leb, ltb}
-use borrow.Author.Tests.{lt-ltb, le-ltb, le-leb}
+use lib.ListN.{length, take, drop}
+use lib.Dec.{leb}
+use borrow.Author.Tests.{le-ltb, le-leb}
 use Rattle.stun_frame.specs.declared.Written.{Written}
 use Rattle.stun_frame.specs.declared.Written.TheVariants.{Bytes, NoRoom}
 use Rattle.stun_frame.specs.Source.{room_after}
 use Rattle.turn_state.specs.declared.Asked.{Asked}
 use Rattle.turn_state.specs.declared.Client.{Client}
 use Rattle.turn_state.specs.declared.Requests.{Requests}
-use Rattle.turn_state.specs.declared.Answer.{Answer}
 use Rattle.turn_state.specs.declared.Kind.TheVariants.{Refresh}
 use Rattle.turn_state.specs.declared.Event.TheVariants.{Nothing}
 use Rattle.turn_state.specs.State.{Turn, Run, begin, ids_in, id_at, set_txns, set_closing}
 use Rattle.turn_state.specs.Source.{close, encode, refresh_message}
 use Rattle.turn_state.specs.Number.{Given, given_of, number, settled, above, full, framed, pending}
-use Rattle.turn_state.specs.View.{view, asked_of, kind_in, txns_in, held, Tidy, refused_answer, Meets, no_request, TidyRequest, TidyTable}
-use Rattle.turn_state.proofs.Answering.{refused_meets, accepted_meets}
+use Rattle.turn_state.specs.View.{view, asked_of, refused_answer, Meets, no_request, TidyRequest}
+use Rattle.turn_state.proofs.Answering.{accepted_meets}
 use Rattle.turn_open.specs.Fresh.{blank_requests}
 use Rattle.turn_open.proofs.Blank.{blank_tidy}
 use Rattle.turn_open.proofs.Lose.{nothing_used}
 use Rattle.turn_packet.specs.Source.{packet_of, packet_size}
-use Rattle.turn_packet.proofs.Laws.{packet_encode, packet_length}
+use Rattle.turn_packet.proofs.Laws.{packet_encode}
 use Rattle.turn_packet.proofs.Bounds.{packet_short}
 use Rattle.turn_packet.proofs.Rooms.{Rooms}
 use Rattle.turn_packet.proofs.Frames.{framed_packet_length}

@@ -1,4 +1,6 @@
 // `close` of turn.rs: the allocation is given up by a Refresh of 0, which is sent once and not kept.
+#![tactic(auto)]
+
 ghost use Rattle.std.specs.Prelude.{length, ◌≡◌};
 ghost use Rattle.turn_state.specs.Sequence.{Close};
 ghost use Rattle.turn_state.specs.View.{Allows, refused_answer};

@@ -1,5 +1,7 @@
 // The data of `send` written into the lent output: tag 0x01, two-byte length, then a Send indication or a ChannelData message.
 // RFC 8656 sections 11.1 (Send indication) and 12.4 (ChannelData).
+#![tactic(auto)]
+
 ghost use Rattle.std.specs.Prelude.{◌≡◌, cond, [], ◌∷◌, ◌++◌, ◌+◌, ◌≤◌, length, take, drop, ltb, leb};
 ghost use Rattle.stun_frame.specs.Source.{room_after, encode_channel_data};
 ghost use Rattle.stun_write.specs.Source.{push_attr, attr_size};

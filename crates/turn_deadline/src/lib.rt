@@ -1,4 +1,6 @@
 // When the client has to be polled next: `next_deadline` of turn.rs. One pass over each table, from its last row in use to its first.
+#![tactic(auto)]
+
 ghost use Rattle.std.specs.Prelude.{◌≡◌, map, min};
 ghost use Rattle.turn_state.specs.Source.{consider, least, next_deadline as «deadline_due»};
 ghost use Rattle.turn_state.specs.View.{view, held, txns_in, perms_in, chans_in};
@@ -6,7 +8,7 @@ ghost use Rattle.turn_deadline.specs.Times.{deadline_of, time_of, of_request, of
 
 use turn_state::{Channels, Client, Permissions, Requests};
 
-#[derive(Drop)]
+#[derive(Clone, Copy)]
 pub enum Deadline {
     At(u64),
     Never,

@@ -1,18 +1,15 @@
 -- Rows as packets in the output: how many bytes they are (`sends_length`, `asks_length`), that lent ids and a table's ids are of 12 bytes
 -- each, as their types say, and that each packet is turn.rs's encoding (`sends_encode`, `asks_encode`).
-use mathlib.Core.Path.{◌≡◌, refl, sym, ap₂, ◌∙◌}
-use mathlib.Core.Bool.{Bool, true, false, cond}
+use mathlib.Core.Path.{◌≡◌, refl, ap₂, ◌∙◌}
 use mathlib.Core.List.{List, [], ◌∷◌, ◌++◌, map}
-use Prim.Native.Nat.{ℕ, zero, suc, ◌+◌, ◌*◌, ◌≤◌, ◌<◌}
+use Prim.Native.Nat.{ℕ, zero, suc, ◌+◌}
 use native.Mathlib.Omega.{arith}
-use lib.ListN.{length, take, drop, get_or, replicate, length-append, length-take, length-drop, length-map}
-use lib.Dec.{ltb}
+use lib.ListN.{length, take, length-append}
 use mir.Val.{Val}
 use denote.Array.{each}
 use denote.Laws.{Is}
 use denote.Shadow.{shadow}
-use denote.Struct.Declared.{row as typed_row, shape}
-use denote.Struct.Struct.{Struct}
+use denote.Struct.Declared.{row as typed_row}
 use Rattle.stun_frame.specs.Source.{to_be}
 use Rattle.turn_state.specs.declared.Asked.{Asked}
 use Rattle.turn_state.specs.declared.Asks.{Asks}
@@ -20,7 +17,7 @@ use Rattle.turn_state.specs.declared.Client.{Client}
 use Rattle.turn_state.specs.declared.Credentials.{Credentials}
 use Rattle.turn_state.specs.declared.Request.{Request}
 use Rattle.turn_state.specs.declared.Requests.{Requests}
-use Rattle.turn_state.specs.contracts.Request.{the_type as the_request}
+use Rattle.turn_state.specs.contracts.Request.{the_type as the_request, the_row as the_request_row}
 use Rattle.turn_state.specs.contracts.Requests.{the_type as the_requests}
 use Rattle.turn_state.specs.Number.{framed}
 use Rattle.turn_state.specs.State.{Txn}
@@ -41,11 +38,11 @@ pub record Ided (r : Request) : Type 0 where
 row_ided : (r : Request) (vs : List Val) → Is (typed_row the_request) r vs → Ided r
 row_ided r vs g =
     record {
-      id = sym (length-map r.id _) ∙ g.1.1.0.1.0.1;
-      under = sym (length-map r.under _) ∙ g.1.1.1.0.1.0.1;
+      id = g.1.1.0.1.0.1;
+      under = g.1.1.1.0.1.0.1;
     }
 
-each_ided : (rows : List Request) (us : List Val) → shadow (each _ (Struct (shape the_request)).own_val (map the_request.to rows) us) → Each Ided rows
+each_ided : (rows : List Request) (us : List Val) → shadow (each the_request_row.Denot the_request_row.own_val rows us) → Each Ided rows
 each_ided [] us g = no_rows
 each_ided (r ∷ rows) [] g = absurd g
 each_ided (r ∷ rows) (u ∷ us) g = row (row_ided r (u ∷ []) g.0) (each_ided rows us g.1)
@@ -54,7 +51,7 @@ each_ided (r ∷ rows) (u ∷ us) g = row (row_ided r (u ∷ []) g.0) (each_ided
 pub ided : (t : Requests) (vs : List Val) → Is (typed_row the_requests) t vs → Each Ided t.rows
 ided t vs g = each_ided t.rows _ g.1.1.0.1.1
 
-pub each_take : {R : Type 0} {tidy : R → Type 0} {rows : List R} (n : ℕ) → Each tidy rows → Each tidy (take n rows)
+pub each_take : {R : Type 0} {tidy : R → Type 0} (n : ℕ) {rows : List R} → Each tidy rows → Each tidy (take n rows)
 each_take zero e = no_rows
 each_take (suc n) no_rows = no_rows
 each_take (suc n) (row t e) = row t (each_take n e)

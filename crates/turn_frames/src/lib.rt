@@ -1,5 +1,7 @@
 // Requests written into the lent output one after the other, each framed: those that are sent again, and those that are to be asked for.
 // A length above the room is read as the room.
+#![tactic(auto)]
+
 ghost use Rattle.std.specs.Prelude.{◌≡◌, cond, [], ◌∷◌, ◌++◌, ◌+◌, ◌≤◌, min, length, take, drop, leb};
 ghost use Rattle.stun_frame.specs.Source.{room_after};
 ghost use Rattle.turn_state.specs.Number.{framed};

@@ -4,12 +4,9 @@ use mathlib.Core.Path.{◌≡◌, refl, ap, sym, ◌∙◌}
 use mathlib.Core.Bool.{Bool, true}
 use mathlib.Core.List.{List, [], ◌∷◌}
 use mathlib.Core.Option.{some}
-use Prim.Native.Nat.{ℕ, zero, suc, ◌+◌, ◌<◌, min}
-use native.Mathlib.Nat.{not-suc-le-zero, le_of_suc-le-suc}
-use native.Mathlib.Omega.{arith}
+use Prim.Native.Nat.{ℕ, ◌+◌, ◌<◌}
 use borrow.Author.Tests.{lt-ltb, eq-eqb, ne_eqb}
-use lib.ListN.{length, get_or, length-take}
-use lib.Seq.{get_or-take}
+use lib.ListN.{length, get_or}
 use Rattle.stun_address.specs.declared.Ip.{Ip}
 use Rattle.stun_address.specs.declared.Address.{Address}
 use Rattle.stun_address.specs.declared.Peer.{Peer}
@@ -27,7 +24,7 @@ use Rattle.turn_state.specs.declared.Client.{Client}
 use Rattle.turn_state.specs.Maps.{insert, remove}
 use Rattle.turn_state.specs.State.{Perm, Chan, set_perms, set_chans, set_relay, set_done, set_refresh_at}
 use Rattle.turn_state.specs.Source.{for_ip, for_peer, granted_or, refresh_time, bound_at, update_chan, on_success, on_failure}
-use Rattle.turn_state.specs.View.{view, place_of, address_in, chan_in, perms_in, chans_in, no_channel, refused_answer, Each, no_rows, row, TidyTable, TidyChannel, Tidy}
+use Rattle.turn_state.specs.View.{view, place_of, address_in, chan_in, perms_in, chans_in, no_channel, refused_answer, TidyTable, TidyChannel, Tidy}
 use Rattle.turn_tables.specs.declared.Position.TheVariants.{At, Nowhere}
 use Rattle.turn_tables.specs.Rows.{position}
 use Rattle.turn_tables.specs.Tables.{put_channel, removed_permission, removed_channel}

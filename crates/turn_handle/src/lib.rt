@@ -1,5 +1,7 @@
 // `handle` of turn.rs: what came from the server. ChannelData and Data indications are data from a peer, and are never checked; the
 // answer to a pending request is checked first where a key is held, and only then does the request leave its table.
+#![tactic(auto)]
+
 ghost use Rattle.std.specs.Prelude.{◌≡◌, cond, ◌&&◌, ◌||◌, not, ◌≤◌, min, eqb, length};
 ghost use Rattle.stun_frame.specs.Source.{field_at};
 ghost use Rattle.stun_frame.specs.declared.classes.Class.TheVariants.{Success as «SuccessOf», Error as «ErrorOf»};
@@ -94,7 +96,7 @@ pub fn data_of(event: Event, datagram: &[u8]) -> &[u8]
 }
 
 // One event or none.
-#[derive(Drop)]
+#[derive(Clone, Copy)]
 pub struct Said {
     pub event: Event,
     pub events: usize,

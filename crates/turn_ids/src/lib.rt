@@ -1,5 +1,7 @@
 // The ids that a caller lends: twelve bytes each, in order; spare bytes are ignored. And the numbers 5 to 8 of a call that uses some:
 // among them 7, a used id equals another used one, or one that is pending at entry.
+#![tactic(auto)]
+
 ghost use Rattle.std.specs.Prelude.{◌≡◌, map, ◌-◌, ◌≤◌, min};
 ghost use Rattle.stun_check.specs.Source.{same};
 ghost use Rattle.turn_state.specs.Maps.{contains};
@@ -92,6 +94,7 @@ pub fn clashes(t: Requests, ids: &[u8], used: usize) -> bool
 }
 
 // 5, of a request: under the id at k, lent or not, it would meet a full table.
+#[tactic(auto, using(crate::proofs::Verdicts::not_full))]
 pub fn meets_full(t: Requests, ids: &[u8], k: usize) -> bool
     ensures { result ≡ request_full (txns_in t) ids.now k }
 {

@@ -1,4 +1,6 @@
 // A client from its opening, `new` of turn.rs, and the loss of its transport, `transport_failed`.
+#![tactic(auto)]
+
 ghost use Rattle.std.specs.Prelude.{◌≡◌, ◌&&◌, [], ◌≤◌, length};
 ghost use Rattle.stun_text.specs.Lossy.{text_of};
 ghost use Rattle.turn_state.specs.Number.{open_number};
@@ -13,7 +15,7 @@ use turn_state::{
     Place, Reason, Request, Requests,
 };
 
-#[derive(Drop)]
+#[derive(Clone, Copy)]
 pub struct Opened {
     pub client: Client,
     pub refusal: u32,

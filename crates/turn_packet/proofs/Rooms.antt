@@ -11,7 +11,7 @@ use Rattle.turn_state.specs.declared.Credentials.{Credentials}
 use Rattle.turn_state.specs.contracts.Credentials.{the_type as the_credentials}
 
 pub text_room : (t : Text) (vs : List Val) → Is (row the_type) t vs → length t.bytes ≡ 763
-text_room t vs g = sym (length-map t.bytes _) ∙ g.1.1.0.1.0.1
+text_room t vs g = g.1.1.0.1.0.1
 
 -- the four arrays of the credentials
 pub record Rooms (c : Credentials) : Type 0 where
@@ -26,5 +26,5 @@ rooms c vs g =
       username = text_room c.username _ g.1.1.0;
       realm = text_room c.realm _ g.1.1.1.0;
       nonce = text_room c.nonce _ g.1.1.1.1.0;
-      key = sym (length-map c.key _) ∙ g.1.1.1.1.1.0.1.0.1;
+      key = g.1.1.1.1.1.0.1.0.1;
     }

@@ -1,5 +1,7 @@
 // One request of the client written into the lent output: tag 0x01, two-byte length, then the message as turn.rs's `encode` gives it.
 // RFC 8656 sections 7.1 (Allocate), 8.1 (Refresh), 10.1 (CreatePermission), 12.1 (ChannelBind); RFC 8489 section 9.2.3 (credentials).
+#![tactic(auto)]
+
 ghost use Rattle.std.specs.Prelude.{◌≡◌, cond, [], ◌∷◌, ◌++◌, ◌+◌, ◌≤◌, min, length, take, drop, leb};
 ghost use Rattle.stun_frame.specs.Source.{room_after};
 ghost use Rattle.stun_address.specs.Source.{encode_xor_addr};

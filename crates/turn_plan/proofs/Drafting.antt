@@ -3,17 +3,15 @@ use Rattle.turn_tables.proofs.Neat.{tidy_row}
 use mathlib.Core.Path.{◌≡◌, refl, ap, sym, subst, ◌∙◌}
 use mathlib.Core.Bool.{Bool, true, false, cond, ◌||◌}
 use mathlib.Core.List.{List, [], ◌∷◌, ◌++◌, map, map-append, reverse, reverse-append}
-use native.Mathlib.Nat.{not-suc-le-zero, le_of_suc-le-suc, mod-mod}
-use lib.Seq.{get_or-take, take-suc}
+use lib.Seq.{take-suc}
 use native.Mathlib.Numerals.{add-one}
-use mathlib.Core.Option.{Option, none, some}
-use Prim.Native.Nat.{ℕ, zero, suc, ◌+◌, ◌-◌, ◌*◌, ◌^◌, ◌≤◌, ◌<◌, min}
+use mathlib.Core.Option.{none}
+use Prim.Native.Nat.{ℕ, ◌+◌, ◌-◌, ◌*◌, ◌^◌, ◌≤◌, ◌<◌, min}
 use native.Mathlib.Omega.{arith}
-use lib.ListN.{length, take, drop, get_or, set, length-take}
-use lib.Dec.{leb, ltb, eqb}
+use lib.ListN.{length, take, get_or, set}
+use lib.Dec.{leb}
 use borrow.Author.Tests.{lt-ltb, le-leb, lt-leb}
 use Rattle.stun_address.specs.declared.Ip.{Ip}
-use Rattle.stun_address.specs.declared.Ip.TheVariants.{V4, V6}
 use Rattle.stun_address.specs.declared.Address.{Address}
 use Rattle.turn_state.specs.declared.Kind.{Kind}
 use Rattle.turn_state.specs.declared.Kind.TheVariants.{Allocate, Refresh, Permission, ChannelBind}
@@ -26,11 +24,11 @@ use Rattle.turn_state.specs.declared.Request.{Request}
 use Rattle.turn_state.specs.declared.Requests.{Requests}
 use Rattle.turn_state.specs.declared.Permissions.{Permissions}
 use Rattle.turn_state.specs.declared.Channels.{Channels}
-use Rattle.turn_state.specs.Maps.{get, insert, remove, each, if_let}
+use Rattle.turn_state.specs.Maps.{insert, remove, each}
 use Rattle.turn_state.specs.State.{Txn, Perm, Chan}
 use Rattle.turn_state.specs.Source.{under_id, under_drawn, for_ip, for_peer, repeated, renewed_at}
 use Rattle.turn_state.specs.Source.{RTO}
-use Rattle.turn_state.specs.View.{kind_in, txn_in, txns_in, perms_in, chans_in, held, host_of, ip_in, place_of, address_in, asked_of, perm_in, chan_in, no_request, no_channel, Each, no_rows, row, TidyTable, TidyRequest, TidyRequests, TidyPermission, TidyChannel}
+use Rattle.turn_state.specs.View.{kind_in, txn_in, txns_in, perms_in, chans_in, held, host_of, ip_in, address_in, asked_of, chan_in, no_request, no_channel, TidyRequest, TidyRequests, TidyPermission, TidyChannel}
 use Rattle.turn_tables.specs.declared.Ids.{Ids}
 use Rattle.turn_tables.specs.declared.Hosts.{Hosts}
 use Rattle.turn_tables.specs.declared.Places.{Places}
@@ -39,17 +37,16 @@ use Rattle.turn_tables.proofs.Dues.{due_ids_shown, due_hosts_shown, due_places_s
 use Rattle.turn_tables.specs.declared.Position.{Position}
 use Rattle.turn_tables.specs.declared.Position.TheVariants.{At, Nowhere}
 use Rattle.turn_tables.specs.Rows.{position}
-use Rattle.turn_tables.specs.Tables.{pushed_request, put_request, removed_request, put_permission, removed_permission, put_channel, removed_channel}
+use Rattle.turn_tables.specs.Tables.{pushed_request, removed_request, put_permission, removed_permission, put_channel, removed_channel}
 use Rattle.turn_tables.proofs.Keys.{nowhere_remove, nowhere_get, nowhere_contains, at_contains}
 use Rattle.turn_tables.proofs.Views.{shown_pushed}
 use Rattle.turn_state.proofs.Rows.{ip_back, address_back}
-use Rattle.turn_tables.proofs.Laws.{txns_length, found_txn, get_txn, add_txn, replace_txn, remove_txn, remove_perm, remove_chan, replace_perm, replace_chan, found_chan, get_chan, tidy_put_permission, tidy_put_channel, tidy_pushed_request, tidy_put_request, tidy_removed_request, tidy_removed_permission, tidy_removed_channel}
-use Rattle.turn_state.specs.declared.Asks.{Asks}
+use Rattle.turn_tables.proofs.Laws.{found_txn, get_txn, add_txn, replace_txn, remove_txn, remove_perm, remove_chan, replace_perm, replace_chan, found_chan, get_chan, tidy_put_permission, tidy_put_channel, tidy_pushed_request, tidy_put_request, tidy_removed_request, tidy_removed_permission, tidy_removed_channel}
 use Rattle.turn_plan.specs.declared.Draft.{Draft}
 use Rattle.turn_plan.specs.declared.Refreshing.{Refreshing}
 use Rattle.turn_open.specs.Fresh.{blank_requests}
-use Rattle.turn_plan.specs.Plan.{Plan, due_tids, due_ips, due_peers, plan_perms, plan_chans, planned_from, asking, no_refresh, asked_again, renewing, plan_refresh, plan_perm, plan_chan, failed, sent_again, settle_due, with_txns, with_perms, with_chans, plan_due, plan_bind, plan_binds, waiting_peers}
-use Rattle.turn_plan.specs.Draft.{inserted, insert_at, id_bytes, plan_in, messages_in, kinds_in, TidyDraft, Drafts, entry_of, From, Begins, Plans, Binds, set_requests, set_permissions, set_channels, set_sends, set_asks}
+use Rattle.turn_plan.specs.Plan.{Plan, due_tids, due_ips, due_peers, plan_perms, plan_chans, planned_from, asking, plan_refresh, plan_perm, plan_chan, failed, sent_again, settle_due, with_txns, with_perms, with_chans, plan_due, plan_bind, plan_binds, waiting_peers}
+use Rattle.turn_plan.specs.Draft.{inserted, insert_at, id_bytes, plan_in, messages_in, TidyDraft, Drafts, entry_of, From, Begins, Plans, Binds, set_requests, set_permissions, set_channels, set_sends, set_asks}
 
 -- an allocation that timed out
 pub fail_allocate : (d : Draft) → Drafts (Unit {0}) 1 0 d (failed Allocate (plan_in d))

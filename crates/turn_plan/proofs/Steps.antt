@@ -3,19 +3,19 @@ use mathlib.Core.Path.{◌≡◌, refl, ap, sym, subst, ◌∙◌}
 use mathlib.Core.Bool.{Bool, true, false, cond, ◌&&◌, ◌||◌, not, or-false, or_assoc, and-false}
 use mathlib.Core.List.{List, [], ◌∷◌, ◌++◌, map, append_assoc, append-nil}
 use mathlib.Core.Option.{Option, none, some}
-use Prim.Native.Nat.{ℕ, ◌+◌, ◌-◌, ◌≤◌}
+use Prim.Native.Nat.{ℕ, ◌≤◌}
 use native.Mathlib.Omega.{arith}
-use lib.ListN.{length, replicate, length-append, replicate-append-replicate}
+use lib.ListN.{length, length-append, replicate-append-replicate}
 use borrow.Author.Tests.{lt-leb}
 use lib.Dec.{leb}
 use Rattle.turn_state.specs.declared.Kind.{Kind}
 use Rattle.turn_state.specs.declared.Kind.TheVariants.{Allocate, Refresh, Permission, ChannelBind}
-use Rattle.turn_state.specs.Maps.{get, contains, insert, remove, filter, each, if_let}
+use Rattle.turn_state.specs.Maps.{get, contains, insert, remove, each, if_let}
 use Rattle.stun_address.specs.declared.Ip.{Ip}
 use Rattle.stun_address.specs.declared.Address.{Address}
 use Rattle.turn_state.specs.declared.Reason.TheVariants.{Timeout}
 use Rattle.turn_state.specs.declared.Event.TheVariants.{Failed}
-use Rattle.turn_state.specs.State.{Message, Txn, Perm, Chan, Turn, Added, Run, id_at, new_tid, drew, on_self, set_refresh_at, set_perms, set_chans, set_txns, begin}
+use Rattle.turn_state.specs.State.{Txn, Perm, Chan, Turn, Added, Run, id_at, new_tid, drew, on_self, set_refresh_at, set_perms, set_chans, set_txns, begin}
 use Rattle.turn_state.specs.Source
 use Rattle.turn_state.specs.Number.{full}
 use Rattle.turn_state.specs.View.{message_of}

@@ -1,5 +1,5 @@
 -- What the code's draft means as a plan, and when it is tidy.
-use Rattle.std.specs.Prelude.{◌≡◌, Bool, cond, List, [], ◌∷◌, map, reverse, ℕ, ◌+◌, ◌≤◌, take, leb}
+use Rattle.std.specs.Prelude.{◌≡◌, Bool, cond, List, [], map, reverse, ℕ, ◌+◌, ◌≤◌, take, leb}
 use Rattle.turn_state.specs.declared.Kind.{Kind}
 use Rattle.turn_state.specs.declared.Request.{Request}
 use Rattle.turn_state.specs.declared.Requests.{Requests}

@@ -1,6 +1,6 @@
 -- What a poll, or the success of a permission, comes to before an id is drawn and a byte written: the tables after the due requests,
 -- what is sent again, and what is to be asked for. It has the definition's steps, without ids, packets and report.
-use Rattle.std.specs.Prelude.{Bool, true, false, cond, ◌&&◌, ◌||◌, List, [], ◌∷◌, ◌++◌, map, ℕ, ◌+◌, leb}
+use Rattle.std.specs.Prelude.{Bool, true, cond, ◌&&◌, ◌||◌, List, [], ◌∷◌, ◌++◌, map, ℕ, ◌+◌, leb}
 use Rattle.std.proofs.Math.Option.{Option, none, some}
 use Rattle.stun_address.specs.declared.Ip.{Ip}
 use Rattle.stun_address.specs.declared.Address.{Address}

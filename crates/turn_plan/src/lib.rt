@@ -2,6 +2,8 @@
 // requests are sent again or fail, in the order in which they stood at entry; then, unless the client is closing, the allocation,
 // permissions and channels that fall due are to be asked for again. And what a permission's success comes to: every unbound channel
 // of its IP is to be bound.
+#![tactic(auto)]
+
 ghost use Rattle.std.specs.Prelude.{◌≡◌, map, take, ◌+◌, ◌-◌, ◌*◌, ◌^◌, ◌≤◌, ◌<◌, min};
 ghost use Rattle.turn_state.specs.Maps.{each};
 ghost use Rattle.turn_state.specs.State.{Turn};
@@ -24,7 +26,7 @@ use turn_tables::{
 
 // The tables as the poll leaves them but for what is still to be asked for; the requests that are sent again, in order; what is to be
 // asked for; and how many allocations timed out.
-#[derive(Drop)]
+#[derive(Clone, Copy)]
 pub struct Draft {
     pub requests: Requests,
     pub permissions: Permissions,
@@ -38,7 +40,7 @@ pub struct Draft {
 }
 
 // When the allocation is to be refreshed, where that is held, and whether the first allocation has been answered.
-#[derive(Drop)]
+#[derive(Clone, Copy)]
 pub struct Refreshing {
     pub at: u64,
     pub held: bool,

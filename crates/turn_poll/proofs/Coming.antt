@@ -1,19 +1,17 @@
 -- One request that is asked for comes into the code's table as into the definition's: over the one of its id, last where there is room,
 -- or it meets a full table.
 use mathlib.Core.Path.{◌≡◌, refl, ap, sym, ◌∙◌}
-use mathlib.Core.Bool.{Bool, true, false, cond, ◌&&◌, ◌||◌, not}
-use mathlib.Core.List.{List, [], ◌∷◌, ◌++◌, map, map-append, reverse, reverse-append}
-use Prim.Native.Nat.{ℕ, suc, ◌+◌, ◌*◌, ◌≤◌, ◌<◌, min}
+use mathlib.Core.Bool.{Bool, true, false, ◌&&◌, not}
+use mathlib.Core.List.{List, [], ◌∷◌, map, map-append, reverse, reverse-append}
+use Prim.Native.Nat.{ℕ, suc, ◌+◌, ◌≤◌, ◌<◌, min}
 use native.Mathlib.Omega.{arith}
-use lib.ListN.{length, take, drop, set, get_or, length-append, length-reverse, length-map}
+use lib.ListN.{length, take, get_or, length-reverse, length-map}
 use lib.Seq.{take-suc, length-take-le}
 use native.Mathlib.Numerals.{add-one}
 use Rattle.turn_tables.proofs.Search.{take-least}
-use lib.Dec.{leb, ltb, eqb}
-use Rattle.stun_address.specs.declared.Address.{Address}
-use borrow.Author.Tests.{lt-ltb, le-ltb, le-leb, lt-leb}
+use lib.Dec.{leb}
+use borrow.Author.Tests.{lt-ltb, le-leb, lt-leb}
 use Rattle.turn_state.specs.declared.Kind.{Kind}
-use Rattle.turn_state.specs.declared.Kind.TheVariants.{Allocate, Refresh, Permission, ChannelBind}
 use Rattle.turn_state.specs.declared.Asked.{Asked}
 use Rattle.turn_state.specs.declared.Request.{Request}
 use Rattle.turn_state.specs.declared.Requests.{Requests}
@@ -21,7 +19,6 @@ use Rattle.turn_state.specs.Maps.{contains, insert}
 use Rattle.turn_state.specs.State.{Txn, ids_in, id_at}
 use Rattle.turn_state.specs.Source.{under_id, under_drawn}
 use Rattle.turn_state.specs.View.{kind_in, asked_of, txn_in, txns_in, either, shows_under, TidyRequest, TidyRequests}
-use Rattle.turn_tables.specs.declared.Position.{Position}
 use Rattle.turn_tables.specs.declared.Position.TheVariants.{At, Nowhere}
 use Rattle.turn_tables.specs.Rows.{position}
 use Rattle.turn_tables.specs.Tables.{pushed_request, put_request}

@@ -1,29 +1,27 @@
 -- The number of a run that a draft stands for, condition by condition, and the answer where none holds.
 use mathlib.Core.Path.{◌≡◌, refl, ap, sym, subst, ◌∙◌}
-use mathlib.Core.Bool.{Bool, true, false, cond, ◌||◌}
-use mathlib.Core.List.{List, [], ◌∷◌, ◌++◌, map, reverse, append_assoc}
-use Prim.Native.Nat.{ℕ, zero, suc, ◌+◌, ◌-◌, ◌≤◌, ◌<◌, min}
+use mathlib.Core.Bool.{Bool, false, cond}
+use mathlib.Core.List.{List, [], ◌∷◌, ◌++◌}
+use Prim.Native.Nat.{ℕ, zero, suc, ◌+◌, ◌≤◌}
 use native.Mathlib.Omega.{arith}
 use lib.ListN.{length, take, drop, replicate, length-take, length-drop, length-append, length-replicate, length-map}
 use lib.Seq.{take_at, drop-append-add, drop-drop}
-use lib.Dec.{leb, ltb, eqb}
-use borrow.Author.Tests.{lt-ltb, le-ltb, le-leb}
+use lib.Dec.{leb}
+use borrow.Author.Tests.{le-leb}
 use Rattle.stun_frame.specs.declared.Written.{Written}
 use Rattle.stun_frame.specs.declared.Written.TheVariants.{Bytes, NoRoom}
 use Rattle.stun_frame.specs.Source.{room_after}
 use Rattle.turn_state.specs.declared.Asked.{Asked}
 use Rattle.turn_state.specs.declared.Asks.{Asks}
-use Rattle.turn_state.specs.declared.Kind.{Kind}
 use Rattle.turn_state.specs.declared.Client.{Client}
 use Rattle.turn_state.specs.declared.Requests.{Requests}
-use Rattle.turn_state.specs.declared.Answer.{Answer}
 use Rattle.turn_state.specs.declared.Event.{Event}
 use Rattle.turn_state.specs.declared.Event.TheVariants.{Failed}
 use Rattle.turn_state.specs.declared.Reason.TheVariants.{Timeout}
 use Rattle.turn_state.specs.State.{Txn, Turn, Run, ids_in, set_txns, begin}
-use Rattle.turn_state.specs.Number.{given_of, Given, number, settled, first, above, full, clash, framed, pending}
-use Rattle.turn_state.specs.View.{view, told, kind_in, asked_of, txns_in, Each, Tidy, TidyRequests, Meets}
-use Rattle.turn_state.proofs.Answering.{refused_meets, accepted_meets}
+use Rattle.turn_state.specs.Number.{given_of, Given, number, settled, above, full, framed, pending}
+use Rattle.turn_state.specs.View.{view, told, asked_of, txns_in, Each, Tidy, TidyRequests, Meets}
+use Rattle.turn_state.proofs.Answering.{accepted_meets}
 use Rattle.turn_packet.proofs.Rooms.{Rooms}
 use Rattle.turn_packet.proofs.Frames.{framed_append}
 use Rattle.turn_ids.proofs.Verdicts.{number_is}
@@ -40,7 +38,7 @@ use Rattle.turn_plan.specs.Draft.{plan_in, kinds_in, TidyDraft}
 use Rattle.turn_plan.specs.Follows.{Follows, drawn, met_full, requested, planned_packets, planned_client, first_next}
 use Rattle.turn_plan.proofs.Steps.{length-drawn, poll_follows, start_follows}
 use Rattle.turn_poll.specs.declared.Taken.{Taken}
-use Rattle.turn_poll.specs.Taking.{Takes, TookAll}
+use Rattle.turn_poll.specs.Taking.{TookAll}
 use Rattle.turn_poll.specs.Concluding.{Allocates}
 use Rattle.turn_poll.proofs.Coming.{length_kinds}
 use Rattle.turn_poll.proofs.Packets.{again_packets, ask_packets, never_long, drawn_ids}

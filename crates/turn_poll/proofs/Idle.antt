@@ -9,8 +9,8 @@ use lib.ListN.{length}
 use lib.Dec.{leb, ltb}
 use borrow.Author.Tests.{leb-true, leb-false, lt-leb, lt-ltb, le-ltb}
 use Rattle.turn_state.specs.declared.Client.{Client}
-use Rattle.turn_state.specs.Maps.{filter, each}
-use Rattle.turn_state.specs.State.{Txn, Perm, Chan, Turn, Run, begin}
+use Rattle.turn_state.specs.Maps.{filter}
+use Rattle.turn_state.specs.State.{Turn, Run, begin}
 use Rattle.turn_state.specs.Source.{poll, poll_refresh, poll_perms, poll_chans, due_of, is_due, consider, least, next_deadline}
 use Rattle.turn_state.specs.Number.{given_of, number, settled}
 use Rattle.turn_state.specs.View.{view, refused_answer, Meets}

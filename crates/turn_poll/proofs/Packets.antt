@@ -1,30 +1,27 @@
 -- What the code writes for a plan are the definition's packets, in its order, and none of them is long.
 use mathlib.Core.Path.{◌≡◌, refl, ap, sym, ◌∙◌}
-use mathlib.Core.Bool.{Bool, true, false, cond, ◌||◌}
-use mathlib.Core.List.{List, [], ◌∷◌, ◌++◌, map, reverse, reverse_aux, append-nil, append_assoc}
-use Prim.Native.Nat.{ℕ, zero, suc, ◌+◌, ◌-◌, ◌*◌, ◌≤◌, ◌<◌, min}
-use native.Mathlib.Nat.{le_of_suc-le-suc}
+use mathlib.Core.Bool.{false}
+use mathlib.Core.List.{List, [], ◌∷◌, ◌++◌, map, reverse, reverse_aux, append-nil}
+use Prim.Native.Nat.{ℕ, suc, ◌+◌, ◌-◌, ◌≤◌, ◌<◌}
 use native.Mathlib.Omega.{arith}
-use lib.ListN.{length, take, drop, length-take, length-append}
+use lib.ListN.{length}
 use lib.Seq.{append_snoc}
-use lib.Dec.{leb, ltb}
-use borrow.Author.Tests.{lt-ltb, le-ltb}
+use borrow.Author.Tests.{le-ltb}
 use Rattle.turn_state.specs.declared.Kind.{Kind}
 use Rattle.turn_state.specs.declared.Asked.{Asked}
-use Rattle.turn_state.specs.declared.Asks.{Asks}
 use Rattle.turn_state.specs.declared.Client.{Client}
 use Rattle.turn_state.specs.declared.Request.{Request}
-use Rattle.turn_state.specs.State.{Message, Turn, ids_in, id_at}
+use Rattle.turn_state.specs.State.{Turn, ids_in, id_at}
 use Rattle.turn_state.specs.Source.{encode}
-use Rattle.turn_state.specs.Number.{above, framed}
-use Rattle.turn_state.specs.View.{kind_in, txn_in, view, message_of, Each, no_rows, row}
+use Rattle.turn_state.specs.Number.{above}
+use Rattle.turn_state.specs.View.{kind_in, txn_in, view, Each, no_rows, row}
 use Rattle.turn_packet.specs.Source.{packet_of}
 use Rattle.turn_packet.proofs.Laws.{packet_encode}
 use Rattle.turn_packet.proofs.Bounds.{kind_short, packet_short}
 use Rattle.turn_packet.proofs.Rooms.{Rooms}
 use Rattle.turn_ids.specs.Ids.{lent_id, ids_from}
 use Rattle.turn_ids.proofs.Lent.{lent_is, id_short}
-use Rattle.turn_frames.specs.Frames.{again, sends_of, asks_of}
+use Rattle.turn_frames.specs.Frames.{sends_of, asks_of}
 use Rattle.turn_frames.proofs.Laws.{Ided}
 use Rattle.turn_plan.specs.Follows.{message_at, drawn, packets_of, body_lengths}
 

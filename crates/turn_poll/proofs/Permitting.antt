@@ -1,13 +1,13 @@
 -- A permission's success: the code's tables are the definition's, its plan stands for the definition's run, and where the permission meets
 -- a full table the number is 5.
 use mathlib.Core.Path.{◌≡◌, refl, ap, ap₂, sym, subst, ◌∙◌}
-use mathlib.Core.Bool.{Bool, true, false, cond, not, ◌&&◌, ◌||◌}
-use mathlib.Core.List.{List, [], ◌∷◌, map}
+use mathlib.Core.Bool.{Bool, true, false}
+use mathlib.Core.List.{List, [], ◌∷◌}
 use mathlib.Core.Option.{Option, none, some}
 use Prim.Native.Nat.{ℕ, ◌+◌, ◌≤◌, ◌<◌, min}
 use native.Mathlib.Omega.{arith}
 use lib.ListN.{length}
-use lib.Dec.{leb, ltb}
+use lib.Dec.{leb}
 use borrow.Author.Tests.{le-ltb, le-leb, lt-leb, leb-true, leb-false}
 use Rattle.stun_address.specs.declared.Ip.{Ip}
 use Rattle.stun_address.specs.declared.Address.{Address}
@@ -17,12 +17,11 @@ use Rattle.turn_state.specs.declared.Host.{Host}
 use Rattle.turn_state.specs.declared.Permission.{Permission}
 use Rattle.turn_state.specs.declared.Permissions.{Permissions}
 use Rattle.turn_state.specs.declared.Requests.{Requests}
-use Rattle.turn_state.specs.Maps.{get, contains, insert, remove, each, if_let}
-use Rattle.turn_state.specs.State.{Message, Txn, Perm, Chan, Turn, Run, begin}
+use Rattle.turn_state.specs.Maps.{get, insert, remove, each, if_let}
+use Rattle.turn_state.specs.State.{Txn, Perm, Chan, Turn, Run, begin}
 use Rattle.turn_state.specs.Source.{under_id, for_ip, for_peer}
 use Rattle.turn_state.specs.Number.{given_of, number, above, full}
 use Rattle.turn_state.specs.View.{view, held, host_of, ip_in, perm_in, txns_in, perms_in, chans_in, TidyRequests, TidyPermission, TidyPermissions}
-use Rattle.turn_tables.specs.declared.Position.{Position}
 use Rattle.turn_tables.specs.declared.Position.TheVariants.{At, Nowhere}
 use Rattle.turn_tables.specs.Rows.{position}
 use Rattle.turn_tables.specs.Tables.{removed_request, put_permission, pushed_permission}

@@ -1,5 +1,5 @@
 -- What a draft comes to: the answer of any run of the definition that the draft's plan stands for.
-use Rattle.std.specs.Prelude.{◌≡◌, List, [], ◌∷◌, ℕ, ◌≤◌, length}
+use Rattle.std.specs.Prelude.{◌≡◌, List, ℕ, ◌≤◌, length}
 use Rattle.stun_address.specs.declared.Ip.{Ip}
 use Rattle.turn_state.specs.declared.Kind.TheVariants.{Allocate, Permission}
 use Rattle.turn_state.specs.declared.Client.{Client}

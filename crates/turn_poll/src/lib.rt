@@ -1,5 +1,7 @@
 // `start` and `poll` of turn.rs, and what `on_success` does for a permission: what is to be sent is planned first, then it is decided,
 // and only then is anything written.
+#![tactic(auto)]
+
 ghost use Rattle.std.specs.Prelude.{◌≡◌, false, cond, not, ◌+◌, ◌≤◌, min, length, replicate};
 ghost use Rattle.turn_state.specs.Sequence.{Start, Poll};
 ghost use Rattle.turn_state.specs.Maps.{remove};
@@ -27,7 +29,7 @@ use turn_tables::{
 
 // The requests with those that were asked for so far, as long as ids are lent; how many more there would be without an id; and whether
 // one of them met a full table.
-#[derive(Drop)]
+#[derive(Clone, Copy)]
 pub struct Taken {
     pub table: Requests,
     pub extra: usize,

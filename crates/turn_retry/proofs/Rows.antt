@@ -5,11 +5,9 @@ use mathlib.Core.Path.{◌≡◌, refl, sym, ap, ◌∙◌}
 use mathlib.Core.Bool.{Bool, true, false, cond}
 use mathlib.Core.List.{List}
 use mathlib.Core.Option.{some}
-use Prim.Native.Nat.{ℕ, zero, suc, ◌≤◌, ◌<◌, min}
-use native.Mathlib.Nat.{not-suc-le-zero, le_of_suc-le-suc}
+use Prim.Native.Nat.{ℕ, zero, suc, ◌≤◌, ◌<◌}
 use native.Mathlib.Omega.{arith}
-use lib.ListN.{length, get_or, length-take}
-use lib.Seq.{get_or-take}
+use lib.ListN.{length, get_or}
 use lib.Dec.{eqb}
 use borrow.Author.Tests.{ne_eqb}
 use Rattle.stun_address.specs.declared.Ip.{Ip}
@@ -20,7 +18,7 @@ use Rattle.turn_state.specs.declared.Kind.TheVariants.{Allocate, Refresh, Permis
 use Rattle.turn_state.specs.declared.Host.{Host}
 use Rattle.turn_state.specs.declared.Asked.{Asked}
 use Rattle.turn_state.specs.declared.Request.{Request}
-use Rattle.turn_state.specs.View.{kind_in, ip_in, attrs_of, is_v6, shows_under, either, Each, no_rows, row, TidyTable, TidyRequest, txn_in, txns_in, no_request, TidyRequests, Sized, Twelve}
+use Rattle.turn_state.specs.View.{kind_in, ip_in, attrs_of, is_v6, shows_under, either, TidyRequest, txn_in, txns_in, no_request, TidyRequests, Sized, Twelve}
 use Rattle.turn_state.specs.declared.Client.{Client}
 use Rattle.turn_state.specs.declared.Requests.{Requests}
 use Rattle.turn_state.specs.Maps.{get, remove}

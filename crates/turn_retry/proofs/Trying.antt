@@ -1,13 +1,13 @@
 -- The run of a retry, its number, and its answers.
 use mathlib.Core.Path.{◌≡◌, refl, ap, ap₂, sym, subst, ◌∙◌}
-use mathlib.Core.Bool.{Bool, true, false, cond, not, ◌&&◌, ◌||◌, or-false}
+use mathlib.Core.Bool.{Bool, true, false, cond, ◌||◌, or-false}
 use mathlib.Core.List.{List, [], ◌∷◌, ◌++◌}
 use mathlib.Core.Option.{Option, none, some}
-use Prim.Native.Nat.{ℕ, ◌+◌, ◌-◌, ◌*◌, ◌≤◌, ◌<◌}
+use Prim.Native.Nat.{ℕ, ◌+◌, ◌-◌, ◌≤◌}
 use native.Mathlib.Omega.{arith}
-use lib.ListN.{length, take, drop, length-take}
+use lib.ListN.{length, take, drop}
 use lib.Dec.{leb, ltb}
-use borrow.Author.Tests.{lt-ltb, le-ltb, le-leb, ne_eqb}
+use borrow.Author.Tests.{le-ltb, le-leb, ne_eqb}
 use Rattle.stun_frame.specs.declared.Written.{Written}
 use Rattle.stun_frame.specs.declared.Written.TheVariants.{Bytes, NoRoom}
 use Rattle.stun_frame.specs.Source.{room_after}
@@ -18,10 +18,10 @@ use Rattle.turn_state.specs.declared.Credentials.{Credentials}
 use Rattle.turn_state.specs.declared.Request.{Request}
 use Rattle.turn_state.specs.declared.Requests.{Requests}
 use Rattle.turn_state.specs.Maps.{contains, insert, remove, if_let}
-use Rattle.turn_state.specs.State.{Message, Txn, Turn, Added, Run, begin, on_self, on_report, report_text, set_txns, set_realm, set_nonce, set_key, new_tid, drew, ids_in, id_at}
-use Rattle.turn_state.specs.Source.{under_id, under_drawn, retry, insert_txn, push_message, encode, first_wait, get_str, add}
+use Rattle.turn_state.specs.State.{Message, Txn, Turn, Run, begin, on_self, on_report, report_text, set_txns, set_realm, set_nonce, set_key, new_tid, drew, ids_in, id_at}
+use Rattle.turn_state.specs.Source.{under_id, under_drawn, retry, insert_txn, push_message, encode, first_wait, get_str}
 use Rattle.turn_state.specs.Number.{given_of, Given, number, settled, called, above, full, framed, pending}
-use Rattle.turn_state.specs.View.{view, kind_in, type_of, txn_in, txns_in, held, Tidy, refused_answer, Meets}
+use Rattle.turn_state.specs.View.{view, kind_in, type_of, txn_in, txns_in, Tidy, refused_answer, Meets}
 use Rattle.turn_state.proofs.Answering.{refused_meets, accepted_meets}
 use Rattle.turn_tables.specs.declared.Position.TheVariants.{Nowhere}
 use Rattle.turn_tables.specs.Rows.{position}

@@ -1,5 +1,7 @@
 // The retry of turn.rs's `handle`: a request that was first answered by 401 or 438 goes out once more, under a new id and with the
 // realm, key and nonce that the answer gives.
+#![tactic(auto)]
+
 ghost use Rattle.std.specs.Prelude.{◌≡◌, cond, ◌≤◌, min, length};
 ghost use Rattle.stun_check.specs.Source.{long_term};
 ghost use Rattle.turn_state.specs.Number.{given_of, called};

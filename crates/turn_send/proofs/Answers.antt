@@ -19,7 +19,7 @@ use Rattle.turn_state.specs.declared.Event.TheVariants.{Nothing}
 use Rattle.turn_state.specs.Maps.{get, is_some}
 use Rattle.turn_state.specs.State.{Perm, Chan, Turn, Run, begin, ids_in}
 use Rattle.turn_state.specs.Source.{for_ip, for_peer, send}
-use Rattle.turn_state.specs.Number.{Given, number, settled, above, clash, framed, pending}
+use Rattle.turn_state.specs.Number.{Given, number, settled, clash, framed, pending}
 use Rattle.turn_state.specs.View.{view, told, asked_of, refused_answer, Meets}
 use Rattle.turn_state.proofs.Answering.{accepted_meets}
 use Rattle.turn_tables.proofs.Laws.{perms_length, chans_length}
@@ -35,18 +35,18 @@ use Rattle.turn_send.specs.declared.Route.{Route}
 use Rattle.turn_send.specs.Sending.{permit_at, permit_in, line_at, line_in, makes, route_of, Sends, Goes, given_of}
 use Rattle.turn_send.proofs.Ranges.{Kept}
 use Rattle.turn_send.proofs.Parts.{frame_written}
-use Rattle.turn_send.proofs.Runs.{kind_kept, sends}
+use Rattle.turn_send.proofs.Runs.{kind_kept, texts_none, sends}
 use Rattle.turn_send.proofs.Deciding.{decided, neither_left, neither_right}
 
 abbrev pub run_of : Client → ℕ → Address → List ℕ → List ℕ → Run
 run_of client now peer body lent = send now peer body (begin (view client) lent)
 
 -- too much data, whatever the call would do
-module _ (client : Client) (now : ℕ) (peer : Address) (body lent : List ℕ) (fit : Kept peer.ip) where
+module _ (client : Client) (now : ℕ) (peer : Address) (body lent : List ℕ) where
   no_texts : (b : Bool) → (not (is_some (view client).relay) || client.closing) ≡ b → (run_of client now peer body lent).report.texts ≡ []
   unfolding send
   no_texts true e = rw e
-  no_texts false e = ap (λ (x : Run). x.report.texts) (sends (view client) now lent peer body e fit).run
+  no_texts false e = texts_none (view client) now lent peer body e
 
   pub too_long : (room : ℕ) → now ≤ 9007199254740991 → 2048 < length body → number (given_of now body lent room) (view client) (run_of client now peer body lent) ≡ 4
   unfolding number

@@ -215,6 +215,18 @@ module _ (c : Turn) (now : ℕ) (lent : List ℕ) (peer : Address) where
     kind_kept true n f = ap (λ (x : Ip). ChannelBind (record { ip = x; port = peer.port }) n) f
     kind_kept false n f = ap Permission f
 
+    -- no text is taken over
+    pub texts_none : (not (is_some c.relay) || c.closing) ≡ false → (Source.send now peer body (begin c lent)).report.texts ≡ []
+    unfolding Source.send
+    texts_none go =
+        let p = Sending.permit_in c.perms peer.ip in
+        let eh : contains (Source.for_ip peer.ip) c.perms ≡ p.held = contains_get (Source.for_ip peer.ip) c.perms ∙ held_perm (get (Source.for_ip peer.ip) c.perms) in
+        let r = ran p.held p.granted (not (contains (Source.for_peer peer) c.chans) && leb c.next_num 0x7FFF) eh refl refl in
+        rw go
+        (ap (λ (b : Bool). (Source.send_data peer body (second_run (first_run b))).report.texts) eh
+        ∙ ap (λ (s : Run). (Source.send_data peer body s).report.texts) r.run
+        ∙ ap (λ (s : Run). s.report.texts) (sent_is _ _ _ _ r.added refl))
+
     -- the whole
     abbrev route : ℕ → ℕ → Route
     route perms chans = Sending.route_of (Sending.permit_in c.perms peer.ip) (Sending.line_in c.chans peer) perms chans c.next_num peer

@@ -1,5 +1,7 @@
 // `send` of turn.rs: data to a peer, over its channel once that is bound, else in a Send indication; a permission and a channel that are
 // missing are asked for first. What is to be done is read from the tables, then it is decided, and only then is anything written.
+#![tactic(auto)]
+
 ghost use Rattle.std.specs.Prelude.{◌≡◌, Bool, cond, ◌&&◌, ◌||◌, [], ◌∷◌, ◌++◌, ◌+◌, ◌≤◌, length, take, drop};
 ghost use Rattle.turn_state.specs.Sequence.{Send};
 ghost use Rattle.turn_state.specs.Number.{framed};
@@ -23,14 +25,14 @@ use turn_tables::{Position, find_channel, find_permission, push_channel, push_pe
 const LAST_NUMBER: u16 = 0x7FFF;
 
 // A peer's permission: there is one, and it is granted.
-#[derive(Drop)]
+#[derive(Clone, Copy)]
 pub struct Permit {
     pub held: bool,
     pub granted: bool,
 }
 
 // A peer's channel: there is one, it is bound, and its number.
-#[derive(Drop)]
+#[derive(Clone, Copy)]
 pub struct Line {
     pub held: bool,
     pub bound: bool,
@@ -39,7 +41,7 @@ pub struct Line {
 
 // What a send comes to: a permission and a channel that are to be made, with the number that comes next then; the request that is asked
 // for, where one is; whether a table is full; and the bound channel's number, where there is one.
-#[derive(Drop)]
+#[derive(Clone, Copy)]
 pub struct Route {
     pub permits: bool,
     pub opens: bool,
@@ -323,6 +325,7 @@ fn conclude(
 }
 
 // Sends data to a peer.
+#[tactic(auto, using(crate::proofs::Answers::too_long))]
 pub fn send(
     client: Client,
     now: u64,

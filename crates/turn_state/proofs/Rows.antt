@@ -2,14 +2,14 @@
 -- (own-*, which the contracts of `host_of`, `place_of` and `asked_of` say).
 use mathlib.Core.Path.{◌≡◌, refl, ap, sym, ◌∙◌}
 use mathlib.Core.Bool.{Bool, true, false}
-use Prim.Native.Nat.{ℕ, ◌%◌, ◌^◌, ◌<◌}
+use Prim.Native.Nat.{ℕ, ◌^◌, ◌<◌}
 use native.Mathlib.Nat.{mod-mod, mod-eq_of_lt}
 use lib.Dec.{eqb}
 use Rattle.stun_address.specs.declared.Ip.{Ip}
 use Rattle.stun_address.specs.declared.Ip.TheVariants.{V4, V6}
 use Rattle.stun_address.specs.declared.Address.{Address}
 use Rattle.turn_state.specs.declared.Kind.{Kind}
-use Rattle.turn_state.specs.declared.Kind.TheVariants.{Allocate, Refresh, Permission, ChannelBind}
+use Rattle.turn_state.specs.declared.Kind.TheVariants.{Permission, ChannelBind}
 use Rattle.turn_state.specs.declared.Asked.{Asked}
 use Rattle.turn_state.specs.declared.Host.{Host}
 use Rattle.turn_state.specs.declared.Place.{Place}

@@ -7,15 +7,14 @@ use mathlib.Core.Bool.{Bool, true, false}
 use mathlib.Core.List.{List, [], ◌∷◌, ◌++◌, map}
 use Prim.Native.Nat.{ℕ, zero, suc, ◌-◌, ◌≤◌}
 use native.Mathlib.Omega.{arith}
-use lib.ListN.{length, take, drop, replicate, take-append-drop, length-map}
+use lib.ListN.{length, take, drop, replicate, take-append-drop}
 use lib.Seq.{length-take-le}
 use lib.Bits.{bit_xor, xor_comm}
 use mir.Val.{Val}
 use denote.Array.{each}
 use denote.Laws.{Is}
 use denote.Shadow.{shadow}
-use denote.Struct.Declared.{row as typed_row, shape}
-use denote.Struct.Struct.{Struct}
+use denote.Struct.Declared.{row as typed_row}
 use Rattle.stun_address.specs.declared.Ip.{Ip}
 use Rattle.stun_address.specs.declared.Ip.TheVariants.{V4, V6}
 use Rattle.stun_address.specs.Source.{key, xored, octets, encode_xor_addr}
@@ -36,7 +35,7 @@ use Rattle.turn_state.specs.declared.Credentials.{Credentials}
 use Rattle.turn_state.specs.declared.Client.{Client}
 use Rattle.turn_state.specs.declared.Answer.{Answer}
 use Rattle.turn_state.specs.contracts.Client.{the_type as the_client}
-use Rattle.turn_state.specs.contracts.Request.{the_type as the_request}
+use Rattle.turn_state.specs.contracts.Request.{the_type as the_request, the_row as the_request_row}
 use Rattle.turn_state.specs.State.{Perm, Chan}
 use Rattle.turn_state.specs.Number.{Outcome}
 use Rattle.turn_state.specs.View.{host_of, ip_in, place_of, address_in, nowhere, asked_of, kind_in, text_in, attrs_of, txn_in, perm_in, chan_in, txns_in, perms_in, chans_in, held, either, absent, view, no_text, shows_under, is_v6, Each, no_rows, row, TidyText, TidyRequest, TidyPermission, TidyChannel, TidyRequests, TidyPermissions, TidyChannels, TidyCredentials, Tidy, Meets, Twelve, Sized}
@@ -74,7 +73,7 @@ module _ {R M : Type 0} {tidy : R → Type 0} (f : R → M) (same : (r s : R) �
   same_rows (r ∷ l) (s ∷ k) (row x xs) (row y ys) e = ap₂ {C = List R} (λ a b. a ∷ b) (same r s x y (cc)) (same_rows l k xs ys (cc))
 
 module _ {R : Type 0} where
-  each_take : {p : R → Type 0} {l : List R} (n : ℕ) → Each p l → Each p (take n l)
+  each_take : {p : R → Type 0} (n : ℕ) {l : List R} → Each p l → Each p (take n l)
   each_take zero x = no_rows
   each_take (suc n) no_rows = no_rows
   each_take (suc n) (row t x) = row t (each_take n x)
@@ -188,9 +187,9 @@ same_requests t u lt lu it iu x y e =
     λ i. record { rows = s.0 i; len = s.1 i }
 
 row_twelve : (r : Request) (vs : List Val) → Is (typed_row the_request) r vs → Twelve r
-row_twelve r vs g = sym (length-map r.under _) ∙ g.1.1.1.0.1.0.1
+row_twelve r vs g = g.1.1.1.0.1.0.1
 
-each_twelve : (rows : List Request) (us : List Val) → shadow (each _ (Struct (shape the_request)).own_val (map the_request.to rows) us) → Each Twelve rows
+each_twelve : (rows : List Request) (us : List Val) → shadow (each the_request_row.Denot the_request_row.own_val rows us) → Each Twelve rows
 each_twelve [] us g = no_rows
 each_twelve (r ∷ rows) [] g = absurd g
 each_twelve (r ∷ rows) (u ∷ us) g = row (row_twelve r (u ∷ []) g.0) (each_twelve rows us g.1)
@@ -199,13 +198,13 @@ each_twelve (r ∷ rows) (u ∷ us) g = row (row_twelve r (u ∷ []) g.0) (each_
 pub sized : (c : Client) (vs : List Val) → Is (typed_row the_client) c vs → Sized c
 sized c vs g =
     record {
-      username = sym (length-map c.credentials.username.bytes _) ∙ g.1.1.1.0.1.1.0.1.1.0.1.0.1;
-      realm = sym (length-map c.credentials.realm.bytes _) ∙ g.1.1.1.0.1.1.1.0.1.1.0.1.0.1;
-      nonce = sym (length-map c.credentials.nonce.bytes _) ∙ g.1.1.1.0.1.1.1.1.0.1.1.0.1.0.1;
-      password = sym (length-map c.password.bytes _) ∙ g.1.1.0.1.1.0.1.0.1;
-      requests = sym (length-map c.requests.rows _) ∙ g.1.1.1.1.0.1.1.0.1.0.1;
-      permissions = sym (length-map c.permissions.rows _) ∙ g.1.1.1.1.1.0.1.1.0.1.0.1;
-      channels = sym (length-map c.channels.rows _) ∙ g.1.1.1.1.1.1.0.1.1.0.1.0.1;
+      username = g.1.1.1.0.1.1.0.1.1.0.1.0.1;
+      realm = g.1.1.1.0.1.1.1.0.1.1.0.1.0.1;
+      nonce = g.1.1.1.0.1.1.1.1.0.1.1.0.1.0.1;
+      password = g.1.1.0.1.1.0.1.0.1;
+      requests = g.1.1.1.1.0.1.1.0.1.0.1;
+      permissions = g.1.1.1.1.1.0.1.1.0.1.0.1;
+      channels = g.1.1.1.1.1.1.0.1.1.0.1.0.1;
       unders = each_twelve c.requests.rows _ g.1.1.1.1.0.1.1.0.1.1;
     }
 

@@ -6,9 +6,9 @@ use mathlib.Core.Option.{some}
 use Prim.Native.Nat.{ℕ, ◌+◌, ◌<◌}
 use lib.Dec.{leb}
 use borrow.Author.Tests.{lt-leb}
-use Rattle.turn_state.specs.Maps.{get, contains, remove}
-use Rattle.turn_state.specs.State.{Txn, Run, on_self, set_txns}
-use Rattle.turn_state.specs.Source.{under_id, under_drawn, add, encode, push_message, insert_txn, poll_due, repeated, refresh_time}
+use Rattle.turn_state.specs.Maps.{get}
+use Rattle.turn_state.specs.State.{Txn, Run}
+use Rattle.turn_state.specs.Source.{under_id, add, encode, insert_txn, poll_due, refresh_time}
 
 -- case 7, at any time
 pub at_0 : (now : ℕ) → refresh_time now 0 ≡ now + 60000

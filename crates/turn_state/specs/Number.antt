@@ -1,12 +1,12 @@
 -- Document 01, "Numbers a caller may get back": the number that a run's report and what the caller lent give, the lowest winning; and
 -- what a call answers by it.
-use Rattle.std.specs.Prelude.{Bool, true, false, cond, ◌||◌, not, List, [], ◌∷◌, ◌++◌, map, ℕ, length, ltb, leb, eqb}
+use Rattle.std.specs.Prelude.{Bool, false, cond, ◌||◌, not, List, [], ◌∷◌, ◌++◌, map, ℕ, length, ltb, leb, eqb}
 use Rattle.stun_frame.specs.Source.{to_be}
 use Rattle.stun_check.specs.Source.{same}
 use Rattle.stun_text.specs.Utf8.{well_formed}
 use Rattle.turn_state.specs.declared.Event.{Event}
 use Rattle.turn_state.specs.Maps.{contains}
-use Rattle.turn_state.specs.State.{Turn, Added, Report, Run, begin, ids_in}
+use Rattle.turn_state.specs.State.{Turn, Added, Run, begin, ids_in}
 use Rattle.turn_state.specs.Source.{new}
 
 -- what a caller gives beside the call's own bytes: the time (0 where a call has none), the length of the data to send (0 where it

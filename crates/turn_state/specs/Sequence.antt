@@ -4,7 +4,7 @@ use Rattle.std.proofs.Math.Option.{Option}
 use Rattle.stun_address.specs.declared.Address.{Address}
 use Rattle.turn_state.specs.State.{Turn}
 use Rattle.turn_state.specs.Source.{start, handle, send, poll, transport_failed, close, next_deadline}
-use Rattle.turn_state.specs.Number.{Given, given_of, Outcome, called, opened}
+use Rattle.turn_state.specs.Number.{given_of, Outcome, called, opened}
 
 -- times first, then what is the call's own, then the ids and the room that are lent
 pub data Call : Type 0 where

@@ -1,6 +1,6 @@
 -- turn.rs, method by method, under its names, in its order of steps. Times are whole milliseconds. A method that takes `&mut self`
 -- is a function from run to run: it has `self`, and its packets and events go to the run's `out` and `ev`.
-use Rattle.std.specs.Prelude.{Bool, true, false, cond, ◌&&◌, ◌||◌, not, List, [], ◌∷◌, ◌++◌, map, ℕ, zero, suc, ◌+◌, ◌-◌, ◌*◌, ◌/◌, ◌%◌, ◌^◌, min, max, length, get_or, take, drop, replicate, ltb, leb, eqb}
+use Rattle.std.specs.Prelude.{Bool, true, false, cond, ◌&&◌, ◌||◌, not, List, [], ◌∷◌, ◌++◌, map, ℕ, ◌+◌, ◌-◌, ◌*◌, ◌/◌, ◌%◌, ◌^◌, min, max, length, take, drop, replicate, ltb, leb, eqb}
 use Rattle.std.proofs.Math.Option.{Option, none, some}
 use Rattle.stun_frame.specs.declared.classes.Class.{Class}
 use Rattle.stun_frame.specs.declared.classes.Class.TheVariants.{Request, Indication, Success, Error}
@@ -27,10 +27,9 @@ use Rattle.turn_state.specs.declared.Kind.{Kind}
 use Rattle.turn_state.specs.declared.Kind.TheVariants.{Allocate, Refresh, Permission, ChannelBind}
 use Rattle.turn_state.specs.declared.Reason.{Reason}
 use Rattle.turn_state.specs.declared.Reason.TheVariants.{Code as ErrorCode, Timeout, NoRelayedAddress, Lost}
-use Rattle.turn_state.specs.declared.Event.{Event}
 use Rattle.turn_state.specs.declared.Event.TheVariants.{Allocated, Failed, Data}
 use Rattle.turn_state.specs.Maps.{get, contains, insert, remove, filter, each, if_let, is_some}
-use Rattle.turn_state.specs.State.{Message, Txn, Perm, Chan, Turn, Added, Run, set_txns, set_perms, set_chans, set_realm, set_nonce, set_key, set_relay, set_done, set_refresh_at, set_next_num, set_closing, on_self, tell, push_frame, on_report, report_added, report_text, report_body, new_tid, drew}
+use Rattle.turn_state.specs.State.{Message, Txn, Perm, Chan, Turn, Run, set_txns, set_perms, set_chans, set_realm, set_nonce, set_key, set_relay, set_done, set_refresh_at, set_next_num, set_closing, on_self, tell, push_frame, on_report, report_added, report_text, report_body, new_tid, drew}
 
 -- RTO, MAX_TRIES, PERMISSION_REFRESH, CHANNEL_REFRESH, RELIABLE_TIMEOUT
 abbrev pub RTO : ℕ
@@ -132,7 +131,7 @@ attr t v = record { typ = t; value = v }
 abbrev pub auth : List ℕ → Option (List ℕ) → Option (List ℕ) → List Attribute
 auth username (some realm) (some nonce) = attr 0x0006 username ∷ attr 0x0014 realm ∷ attr 0x0015 nonce ∷ []
 auth username (some realm) none = []
-auth username none nonce = []
+auth username none _ = []
 
 abbrev pub with_auth : Turn → Message → Message
 with_auth c m = record { typ = m.typ; tid = m.tid; attrs = m.attrs ++ auth c.username c.realm c.nonce }

@@ -26,7 +26,7 @@ use Rattle.turn_state.specs.declared.Credentials.{Credentials}
 use Rattle.turn_state.specs.declared.Client.{Client}
 use Rattle.turn_state.specs.declared.Answer.{Answer}
 use Rattle.turn_state.specs.State.{Message, Txn, Perm, Chan, Turn}
-use Rattle.turn_state.specs.Source.{attr, SOFTWARE, refresh_message}
+use Rattle.turn_state.specs.Source.{attr, SOFTWARE}
 use Rattle.turn_state.specs.Number.{Outcome, framed}
 use Rattle.turn_state.specs.Sequence.{Call, outcome}
 

@@ -1,6 +1,8 @@
 // What a client holds between calls, and what a call answers: the structs and enums of turn.rs. The client itself holds no enum at
 // any depth, because a driver calls it through a reference; rows keep kind and peer as plain numbers, and the enums stand at every
 // interface. specs/ has turn.rs as a definition, and what these structs mean in it.
+#![tactic(auto)]
+
 ghost use Rattle.std.specs.Prelude.{◌≡◌};
 ghost use Rattle.turn_state.specs.View.{host_of as «host_row», ip_in, place_of as «place_row», address_in, asked_of as «asked_row», kind_in, refused_answer};
 
@@ -8,7 +10,7 @@ use stun_address::{Address, Ip, Peer};
 use stun_text::Text;
 
 // What a request asks for.
-#[derive(Drop)]
+#[derive(Clone, Copy)]
 pub enum Kind {
     Allocate,
     Refresh(u32),
@@ -17,7 +19,7 @@ pub enum Kind {
 }
 
 // Why an allocation failed.
-#[derive(Drop)]
+#[derive(Clone, Copy)]
 pub enum Reason {
     Code(u16),
     Timeout,
@@ -26,7 +28,7 @@ pub enum Reason {
 }
 
 // `Data` is a part of the caller's datagram, from `start` on, `len` bytes long.
-#[derive(Drop)]
+#[derive(Clone, Copy)]
 pub enum Event {
     Nothing,
     Allocated(Address, Peer),
@@ -36,7 +38,7 @@ pub enum Event {
 
 // An IP address: family 1 with the address in `low`, or family 2 with its two halves.
 #[repr(C)]
-#[derive(Drop)]
+#[derive(Clone, Copy)]
 pub struct Host {
     pub family: u8,
     pub high: u64,
@@ -44,7 +46,7 @@ pub struct Host {
 }
 
 #[repr(C)]
-#[derive(Drop)]
+#[derive(Clone, Copy)]
 pub struct Place {
     pub host: Host,
     pub port: u16,
@@ -52,7 +54,7 @@ pub struct Place {
 
 // A kind: 0 Allocate, 1 Refresh, 2 CreatePermission, 3 ChannelBind; what it does not name is zero.
 #[repr(C)]
-#[derive(Drop)]
+#[derive(Clone, Copy)]
 pub struct Asked {
     pub tag: u8,
     pub number: u16,
@@ -62,7 +64,7 @@ pub struct Asked {
 
 // A pending request. `under` is the id under which its peer's address is encoded.
 #[repr(C)]
-#[derive(Drop)]
+#[derive(Clone, Copy)]
 pub struct Request {
     pub id: [u8; 12],
     pub under: [u8; 12],
@@ -74,7 +76,7 @@ pub struct Request {
 
 // A permission: asked for, or granted and to be renewed at `at`.
 #[repr(C)]
-#[derive(Drop)]
+#[derive(Clone, Copy)]
 pub struct Permission {
     pub host: Host,
     pub granted: bool,
@@ -82,7 +84,7 @@ pub struct Permission {
 }
 
 #[repr(C)]
-#[derive(Drop)]
+#[derive(Clone, Copy)]
 pub struct Channel {
     pub peer: Place,
     pub number: u16,
@@ -92,28 +94,28 @@ pub struct Channel {
 
 // Tables: the first `len` rows, in the order in which they came; the rows after them are blank.
 #[repr(C)]
-#[derive(Drop)]
+#[derive(Clone, Copy)]
 pub struct Requests {
     pub rows: [Request; 64],
     pub len: usize,
 }
 
 #[repr(C)]
-#[derive(Drop)]
+#[derive(Clone, Copy)]
 pub struct Permissions {
     pub rows: [Permission; 32],
     pub len: usize,
 }
 
 #[repr(C)]
-#[derive(Drop)]
+#[derive(Clone, Copy)]
 pub struct Channels {
     pub rows: [Channel; 32],
     pub len: usize,
 }
 
 // What a call is to ask for, in order, one request each.
-#[derive(Drop)]
+#[derive(Clone, Copy)]
 pub struct Asks {
     pub rows: [Asked; 65],
     pub len: usize,
@@ -121,7 +123,7 @@ pub struct Asks {
 
 // What a request is signed with, and the texts that go with it. What is not held is empty, or zero.
 #[repr(C)]
-#[derive(Drop)]
+#[derive(Clone, Copy)]
 pub struct Credentials {
     pub username: Text,
     pub realm: Text,
@@ -133,7 +135,7 @@ pub struct Credentials {
 }
 
 #[repr(C)]
-#[derive(Drop)]
+#[derive(Clone, Copy)]
 pub struct Client {
     pub password: Text,
     pub credentials: Credentials,
@@ -152,7 +154,7 @@ pub struct Client {
 
 // What a call answers: the next client, the number, how many events there were and the one that a caller is told of, how many
 // packets stand in the lent output, and how many bytes of it they take, heads included.
-#[derive(Drop)]
+#[derive(Clone, Copy)]
 pub struct Answer {
     pub client: Client,
     pub refusal: u32,

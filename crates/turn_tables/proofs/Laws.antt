@@ -1,5 +1,5 @@
--- The laws of the three tables: what they show after an operation (`-txns`, `-perms`, `-chans`), that they keep their rows (`-rows`), and
--- that they stay tidy (`tidy-`). `full` is what an array's type says of its rows.
+-- The laws of the three tables: what they show after an operation (`_txns`, `_perms`, `_chans`), that they keep their rows (`_rows`), and
+-- that they stay tidy (`tidy_`). `full` is what an array's type says of its rows.
 use mathlib.Core.Path.{◌≡◌, ◌∙◌}
 use mathlib.Core.Bool.{Bool}
 use mathlib.Core.List.{[], ◌∷◌, ◌++◌}

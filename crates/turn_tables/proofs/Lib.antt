@@ -8,3 +8,4 @@ pub mod Neat
 pub mod Laws
 pub mod Listing
 pub mod Dues
+pub mod Requests

@@ -16,12 +16,12 @@ module _ {R : Type 0} {tidy : R → Type 0} where
   each_append no_rows q = q
   each_append (row t p) q = row t (each_append p q)
 
-  each_take : {l : List R} (n : ℕ) → Each tidy l → Each tidy (take n l)
+  each_take : (n : ℕ) {l : List R} → Each tidy l → Each tidy (take n l)
   each_take zero p = no_rows
   each_take (suc n) no_rows = no_rows
   each_take (suc n) (row t p) = row t (each_take n p)
 
-  each_drop : {l : List R} (n : ℕ) → Each tidy l → Each tidy (drop n l)
+  each_drop : (n : ℕ) {l : List R} → Each tidy l → Each tidy (drop n l)
   each_drop zero p = p
   each_drop (suc n) no_rows = no_rows
   each_drop (suc n) (row t p) = each_drop n p

@@ -1,5 +1,7 @@
 // The client's three tables, by value: a row is found, put last, replaced and taken out, and what is due is listed.
 // A length above the room is read as the room.
+#![tactic(auto)]
+
 ghost use Rattle.std.specs.Prelude.{◌≡◌, ◌&&◌, not, ◌<◌, min, leb};
 ghost use Rattle.stun_check.specs.Source.{same as «same_of»};
 ghost use Rattle.turn_state.specs.Source.{same_ip as «ip_is», same_address as «address_is», under_id, for_ip, for_peer, of_number};
@@ -15,31 +17,31 @@ use turn_state::{
 };
 
 // Where a row stands among the rows of a table.
-#[derive(Drop)]
+#[derive(Clone, Copy)]
 pub enum Position {
     At(usize),
     Nowhere,
 }
 
 // What is listed at an entry: the first `len` rows, in the table's order, and zeros after them.
-#[derive(Drop)]
+#[derive(Clone, Copy)]
 pub struct Id {
     pub bytes: [u8; 12],
 }
 
-#[derive(Drop)]
+#[derive(Clone, Copy)]
 pub struct Ids {
     pub rows: [Id; 64],
     pub len: usize,
 }
 
-#[derive(Drop)]
+#[derive(Clone, Copy)]
 pub struct Hosts {
     pub rows: [Host; 32],
     pub len: usize,
 }
 
-#[derive(Drop)]
+#[derive(Clone, Copy)]
 pub struct Places {
     pub rows: [Place; 32],
     pub len: usize,
@@ -103,6 +105,7 @@ pub fn same_address(a: Address, b: Address) -> bool
 }
 
 // The first row of that key.
+#[tactic(auto, using(crate::proofs::Requests::at_request))]
 pub fn find_request(t: Requests, id: [u8; 12]) -> Position
     ensures { result ≡ «first» (under_id id) (txns_in t) }
 {
