@@ -63,7 +63,7 @@ pub fn line(number: u64, piece: Piece, a: Answer) -> Line {
     listing::call_line(number, call, a.refusal, a.events, packets, bytes, due)
 }
 
-fn packets(out: &[u8], count: usize) {
+fn packets(rt: &impl Print, out: &[u8], count: usize) {
     let n = out.len();
     let mut at = 0;
     let mut k = 0;
@@ -77,60 +77,60 @@ fn packets(out: &[u8], count: usize) {
             return;
         }
         at = start + len;
-        form::form(b"  packet %\n", NONE, &out[start..at]);
+        form::form(rt, b"  packet %\n", NONE, &out[start..at]);
         k += 1;
     }
 }
 
-fn address(before: &[u8], a: Address) {
+fn address(rt: &impl Print, before: &[u8], a: Address) {
     let p = turn_state::place_of(a);
-    state::place(before, p);
+    state::place(rt, before, p);
 }
 
-fn mapped(p: Peer) {
+fn mapped(rt: &impl Print, p: Peer) {
     match p {
-        Peer::At(a) => address(b" mapped ", a),
-        Peer::Nothing => form::form(b" mapped -", NONE, b""),
+        Peer::At(a) => address(rt, b" mapped ", a),
+        Peer::Nothing => form::form(rt, b" mapped -", NONE, b""),
     }
 }
 
-fn failed(reason: Reason) {
+fn failed(rt: &impl Print, reason: Reason) {
     match reason {
-        Reason::Code(n) => form::form(b"  event failed code #", [n as u64, 0, 0, 0, 0], b""),
-        Reason::Timeout => form::form(b"  event failed timeout", NONE, b""),
-        Reason::NoRelayedAddress => form::form(b"  event failed no-relayed-address", NONE, b""),
-        Reason::Lost => form::form(b"  event failed lost", NONE, b""),
+        Reason::Code(n) => form::form(rt, b"  event failed code #", [n as u64, 0, 0, 0, 0], b""),
+        Reason::Timeout => form::form(rt, b"  event failed timeout", NONE, b""),
+        Reason::NoRelayedAddress => form::form(rt, b"  event failed no-relayed-address", NONE, b""),
+        Reason::Lost => form::form(rt, b"  event failed lost", NONE, b""),
     }
 }
 
-fn event(e: Event) {
+fn event(rt: &impl Print, e: Event) {
     match e {
-        Event::Nothing => form::form(b"  event nothing", NONE, b""),
+        Event::Nothing => form::form(rt, b"  event nothing", NONE, b""),
         Event::Allocated(relayed, seen) => {
-            address(b"  event allocated ", relayed);
-            mapped(seen);
+            address(rt, b"  event allocated ", relayed);
+            mapped(rt, seen);
         }
-        Event::Failed(reason) => failed(reason),
+        Event::Failed(reason) => failed(rt, reason),
         Event::Data(from, start, len) => {
-            address(b"  event data ", from);
-            form::form(b" # #", [start as u64, len as u64, 0, 0, 0], b"");
+            address(rt, b"  event data ", from);
+            form::form(rt, b" # #", [start as u64, len as u64, 0, 0, 0], b"");
         }
     }
-    form::form(b"\n", NONE, b"");
+    form::form(rt, b"\n", NONE, b"");
 }
 
 // What the caller is told; of several events all are the first.
-fn events(e: Event, count: usize) {
+fn events(rt: &impl Print, e: Event, count: usize) {
     let mut k = 0;
     while k < count {
-        event(e);
+        event(rt, e);
         k += 1;
     }
 }
 
 // The packets and the events.
-pub fn below(a: Answer, out: &[u8]) {
-    packets(out, a.packets);
+pub fn below(rt: &impl Print, a: Answer, out: &[u8]) {
+    packets(rt, out, a.packets);
     let e = a.event;
-    events(e, a.events);
+    events(rt, e, a.events);
 }

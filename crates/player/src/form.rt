@@ -3,62 +3,60 @@
 //   %  the bytes in hexadecimal   @      the bytes as they are
 ghost use Rattle.std.specs.Prelude.{◌≤◌};
 
-use libc::STDOUT_FILENO;
-
-pub fn form(pattern: &[u8], numbers: [u64; 5], bytes: &[u8]) {
+pub fn form(rt: &impl Print, pattern: &[u8], numbers: [u64; 5], bytes: &[u8]) {
     let n = pattern.len();
     let mut i = 0;
     let mut k = 0;
     while i < n {
-        k = (k + mark(pattern[i], numbers[k], bytes)) % 5;
+        k = (k + mark(rt, pattern[i], numbers[k], bytes)) % 5;
         i += 1;
     }
 }
 
 // Writes what a character stands for; the answer is how many numbers that took.
-fn mark(c: u8, n: u64, bytes: &[u8]) -> usize
+fn mark(rt: &impl Print, c: u8, n: u64, bytes: &[u8]) -> usize
     ensures { result ≤ 1 }
 {
     match c {
         b'#' => {
-            io::print_decimal(STDOUT_FILENO, n);
+            let _ = print!(rt; "{n}");
             1
         }
-        b'^' => in_hex(n, 4),
-        b'$' => in_hex(n, 8),
-        b'&' => in_hex(n, 16),
+        b'^' => in_hex(rt, n, 4),
+        b'$' => in_hex(rt, n, 8),
+        b'&' => in_hex(rt, n, 16),
         b'%' => {
-            hex(bytes);
+            hex(rt, bytes);
             0
         }
         b'@' => {
-            io::write_all(STDOUT_FILENO, bytes);
+            let _ = rt.write_all(bytes);
             0
         }
         _ => {
             let one = [c];
-            io::write_all(STDOUT_FILENO, &one);
+            let _ = rt.write_all(&one);
             0
         }
     }
 }
 
-fn in_hex(n: u64, width: usize) -> usize
+fn in_hex(rt: &impl Print, n: u64, width: usize) -> usize
     ensures { result ≤ 1 }
 {
-    io::print_hex(STDOUT_FILENO, n, width);
+    let _ = print!(rt; "{n:0width$x}");
     1
 }
 
-fn hex(bytes: &[u8]) {
+fn hex(rt: &impl Print, bytes: &[u8]) {
     let n = bytes.len();
     let mut i = 0;
     while i < n {
-        byte(bytes[i]);
+        byte(rt, bytes[i]);
         i += 1;
     }
 }
 
-fn byte(b: u8) {
-    io::print_hex(STDOUT_FILENO, b as u64, 2);
+fn byte(rt: &impl Print, b: u8) {
+    let _ = print!(rt; "{b:02x}");
 }

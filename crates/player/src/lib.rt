@@ -1,4 +1,6 @@
 // What `replay`, `trace` and `turn_talks` share: a tape is played against the client, and its listing printed.
+#![tactic(auto)]
+
 mod calls;
 mod form;
 mod state;
@@ -6,8 +8,8 @@ mod state;
 ghost use Rattle.std.specs.Prelude.{◌≤◌, length};
 
 pub use calls::joined;
-use libc::{STDIN_FILENO, STDOUT_FILENO};
 use listing::Line;
+use std::io::{Input, Read};
 use tape::{Front, Piece};
 use turn_state::Client;
 
@@ -21,7 +23,7 @@ const BAD: u8 = 5;
 // of the username, and after the opening of the ids for the next call, `second` of the password. `told`: a line has told of the
 // client. `traced`: packets and events are listed below a call's line. `stated`: and so is the client, which else is listed at
 // the tape's end.
-#[derive(Drop)]
+#[derive(Clone, Copy)]
 struct Session {
     client: Client,
     stage: u8,
@@ -34,22 +36,22 @@ struct Session {
 }
 
 // Plays the tape on standard input as it comes. Traced, each call's line has below it all that can be seen of the call.
-pub fn play(traced: bool) {
+pub fn play(rt: &(impl Input + Print), traced: bool) {
     let mut window = [0u8; 8192];
-    let s = fresh(traced, traced);
-    run(s, &mut window, 0, false);
+    let s = fresh(rt, traced, traced);
+    run(rt, s, &mut window, 0, false);
 }
 
 // Plays a whole tape, the first `len` bytes of the room: traced, but the client is listed only after the last call.
-pub fn play_whole(room: &mut [u8], len: usize) {
-    let s = fresh(true, false);
-    run(s, room, len, true);
+pub fn play_whole(rt: &(impl Input + Print), room: &mut [u8], len: usize) {
+    let s = fresh(rt, true, false);
+    run(rt, s, room, len, true);
 }
 
 // Prints the first line; nothing is read before.
-fn fresh(traced: bool, stated: bool) -> Session {
+fn fresh(rt: &impl Print, traced: bool, stated: bool) -> Session {
     let mut stage = 0;
-    if !print(listing::first_line()) {
+    if !print(rt, listing::first_line()) {
         stage = OVER;
     }
     let o = turn_open::open(b"", b"", false);
@@ -68,9 +70,9 @@ fn fresh(traced: bool, stated: bool) -> Session {
 
 // Plays the tape of which the window holds the first `have` bytes; unless that is all, standard input brings more. A proved loop
 // has to end: it counts its turns up to a number that no input reaches.
-fn run(before: Session, window: &mut [u8], have: usize, all: bool) {
-    let mut username = io::buffer();
-    let mut password = io::buffer();
+fn run(rt: &(impl Input + Print), before: Session, window: &mut [u8], have: usize, all: bool) {
+    let mut username = [0u8; 4096];
+    let mut password = [0u8; 4096];
     let mut s = before;
     let mut ended = all;
     let mut from = 0;
@@ -88,14 +90,14 @@ fn run(before: Session, window: &mut [u8], have: usize, all: bool) {
             } => {
                 let at = from + start;
                 let body = &window[at..at + len];
-                let next = step(s, piece, body, &mut username, &mut password);
+                let next = step(rt, s, piece, body, &mut username, &mut password);
                 s = next;
                 from += size;
                 place = std::num::wrapping_add_u64(place, size as u64);
             }
             Front::More => {
                 let left = to - from;
-                to = refilled(window, from, to);
+                to = refilled(rt, window, from, to);
                 from = 0;
                 ended = to <= left;
             }
@@ -103,11 +105,11 @@ fn run(before: Session, window: &mut [u8], have: usize, all: bool) {
             Front::Bad => s.stage = BAD,
         }
     }
-    finish(s, place);
+    finish(rt, s, place);
 }
 
 // Moves the bytes from `from` to `to` to the window's front and reads once behind them; the answer is where the bytes end.
-fn refilled(window: &mut [u8], from: usize, to: usize) -> usize
+fn refilled(rt: &impl Input, window: &mut [u8], from: usize, to: usize) -> usize
     requires { (from ≤ to) × (to ≤ length window.old) }
     ensures { result ≤ length window.new }
 {
@@ -117,19 +119,19 @@ fn refilled(window: &mut [u8], from: usize, to: usize) -> usize
         window[i] = window[from + i];
         i += 1;
     }
-    left + read_some(&mut window[left..])
+    left + read_some(rt, &mut window[left..])
 }
 
 // One read; one that fails is the end of the input.
-fn read_some(room: &mut [u8]) -> usize
+fn read_some(rt: &impl Input, room: &mut [u8]) -> usize
     ensures { result ≤ length room.old }
 {
-    let got = libc::read(STDIN_FILENO, room);
-    io::count(got, room)
+    rt.reader().read(room).unwrap_or(0)
 }
 
 // Plays a piece, whose bytes are the body. After the opening the username's room takes the ids.
 fn step(
+    rt: &impl Print,
     s: Session,
     piece: Piece,
     body: &[u8],
@@ -148,12 +150,12 @@ fn step(
             next.second = n;
             next.stage = 2;
         }
-        Piece::Transport(reliable) => return opened(s, username, password, reliable),
+        Piece::Transport(reliable) => return opened(rt, s, username, password, reliable),
         Piece::Ids => {
             let n = kept(username, body);
             next.first = n;
         }
-        _ => return call(s, piece, body, username),
+        _ => return call(rt, s, piece, body, username),
     }
     next
 }
@@ -169,7 +171,13 @@ fn kept(room: &mut [u8], bytes: &[u8]) -> usize {
     n
 }
 
-fn opened(s: Session, username: &[u8], password: &[u8], reliable: bool) -> Session {
+fn opened(
+    rt: &impl Print,
+    s: Session,
+    username: &[u8],
+    password: &[u8],
+    reliable: bool,
+) -> Session {
     let first = least(s.first, username.len());
     let second = least(s.second, password.len());
     let o = turn_open::open(&username[0..first], &password[0..second], reliable);
@@ -180,56 +188,56 @@ fn opened(s: Session, username: &[u8], password: &[u8], reliable: bool) -> Sessi
     next.first = 0;
     if o.refusal != 0 {
         next.stage = OVER;
-        next.told = print(listing::refused_line(o.refusal));
+        next.told = print(rt, listing::refused_line(o.refusal));
         if s.stated {
-            state::state(client);
+            state::state(rt, client);
         }
     }
     next
 }
 
-fn call(s: Session, piece: Piece, body: &[u8], lent: &[u8]) -> Session {
+fn call(rt: &impl Print, s: Session, piece: Piece, body: &[u8], lent: &[u8]) -> Session {
     let n = least(s.first, lent.len());
     let client = s.client;
     let number = std::num::wrapping_add_u64(s.number, 1);
-    let mut out = io::large_buffer();
+    let mut out = [0u8; 65536];
     let a = calls::answer(client, piece, body, &lent[0..n], &mut out);
     let after = a.client;
     let mut next = s;
     next.client = after;
     next.number = number;
     next.first = 0;
-    next.told = print(calls::line(number, piece, a));
+    next.told = print(rt, calls::line(number, piece, a));
     if !next.told {
         next.stage = OVER;
         return next;
     }
     if s.traced {
-        calls::below(a, &out);
+        calls::below(rt, a, &out);
     }
     if s.stated {
-        state::state(after);
+        state::state(rt, after);
     }
     next
 }
 
 // The client, unless it is listed or nothing told of it, and the place of a bad field.
-fn finish(s: Session, place: u64) {
+fn finish(rt: &impl Print, s: Session, place: u64) {
     if s.told && s.traced && !s.stated {
         let client = s.client;
-        state::state(client);
+        state::state(rt, client);
     }
     if s.stage == BAD {
-        print(listing::bad_line(place));
+        print(rt, listing::bad_line(place));
     }
 }
 
 // Could the line be written?
-fn print(line: Line) -> bool {
+fn print(rt: &impl Print, line: Line) -> bool {
     let bytes = line.bytes;
     let all: &[u8] = &bytes;
     let n = least(line.len, all.len());
-    io::write_all(STDOUT_FILENO, &all[0..n])
+    rt.write_all(&all[0..n]).is_ok()
 }
 
 fn least(a: usize, b: usize) -> usize

@@ -1,4 +1,6 @@
 // Plays the tape on standard input against the client and prints the listing of document 01.
-fn main() {
-    player::play(false);
+#![tactic(auto)]
+
+fn main(rt: HostRuntime) {
+    player::play(&rt, false);
 }

@@ -1,5 +1,7 @@
 // Plays the tape on standard input against the client and prints `replay`'s listing with, below each call's line, its packets,
 // its events and the client's state.
-fn main() {
-    player::play(true);
+#![tactic(auto)]
+
+fn main(rt: HostRuntime) {
+    player::play(&rt, true);
 }

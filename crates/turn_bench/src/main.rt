@@ -1,7 +1,11 @@
 // Calls of the client, for counting what they cost: `turn_bench KERNEL UNITS` makes the call so many times on a client with a relay and
 // 32 peers bound, with 1,200 bytes of data, and prints how many events, packets or deadlines there were.
+#![tactic(auto)]
+
 ghost use Rattle.std.specs.Prelude.{◌≤◌};
 
+use std::env::Env;
+use std::io;
 use stun_address::{Address, Ip};
 use stun_frame::Written;
 use stun_frame::names::ATTR_LIFETIME;
@@ -21,22 +25,22 @@ enum Kernel {
 
 // The kernel of that name; Nothing for any other name, as `none`.
 fn named(s: &[u8]) -> Kernel {
-    if check::same(s, b"channel-in") {
+    if s == b"channel-in".as_slice() {
         return Kernel::ChannelIn;
     }
-    if check::same(s, b"data-in") {
+    if s == b"data-in".as_slice() {
         return Kernel::DataIn;
     }
-    if check::same(s, b"channel-out") {
+    if s == b"channel-out".as_slice() {
         return Kernel::ChannelOut;
     }
-    if check::same(s, b"verify") {
+    if s == b"verify".as_slice() {
         return Kernel::Verify;
     }
-    if check::same(s, b"deadline") {
+    if s == b"deadline".as_slice() {
         return Kernel::Deadline;
     }
-    if check::same(s, b"poll-idle") {
+    if s == b"poll-idle".as_slice() {
         return Kernel::PollIdle;
     }
     Kernel::Nothing
@@ -134,7 +138,7 @@ fn size_of(w: Written) -> usize
 // Datagrams that come in, and the events told of.
 fn handled(datagram: &[u8], units: u64) -> u64 {
     let mut c = ready();
-    let mut room = io::buffer();
+    let mut room = [0u8; 4096];
     let mut seen: u64 = 0;
     for _ in 0..units {
         let a = turn_handle::handle(c, 0, datagram, b"", &mut room);
@@ -149,7 +153,7 @@ fn handled(datagram: &[u8], units: u64) -> u64 {
 fn sent(data: &[u8], units: u64) -> u64 {
     let mut c = ready();
     let to = peer(20);
-    let mut room = io::buffer();
+    let mut room = [0u8; 4096];
     let mut seen: u64 = 0;
     for _ in 0..units {
         let a = turn_send::send(c, 0, to, data, b"", &mut room);
@@ -186,7 +190,7 @@ fn deadlines(units: u64) -> u64 {
 
 fn polls(units: u64) -> u64 {
     let mut c = ready();
-    let mut room = io::buffer();
+    let mut room = [0u8; 4096];
     let mut seen: u64 = 0;
     for _ in 0..units {
         let a = turn_poll::poll(c, 0, b"", &mut room);
@@ -200,13 +204,13 @@ fn polls(units: u64) -> u64 {
 // ChannelData on the 21st channel, a Data indication from the 21st peer (a Send indication but for its type, behind the three bytes of
 // its head), and a signed success of 60 bytes.
 fn channel_in(data: &[u8], units: u64) -> u64 {
-    let mut room = io::buffer();
+    let mut room = [0u8; 4096];
     let n = size_of(stun_frame::encode_channel_data(0x4014, data, &mut room));
     handled(&room[0..n], units)
 }
 
 fn data_in(data: &[u8], units: u64) -> u64 {
-    let mut room = io::buffer();
+    let mut room = [0u8; 4096];
     let n = size_of(turn_data::write_indication(&mut room, 0, peer(20), [7; 12], data));
     if n < 3 {
         return 0;
@@ -216,7 +220,7 @@ fn data_in(data: &[u8], units: u64) -> u64 {
 }
 
 fn checked(units: u64) -> u64 {
-    let mut room = io::buffer();
+    let mut room = [0u8; 4096];
     let key = [7; 16];
     let value = [0, 0, 2, 88];
     let at = size_of(stun_write::push_attr(&mut room, 20, ATTR_LIFETIME, &value));
@@ -257,15 +261,16 @@ fn number(s: &[u8]) -> u64 {
     n
 }
 
-fn main() {
-    let mut first = io::buffer();
-    let mut second = io::buffer();
-    let a = os::arg(1, &mut first);
-    let b = os::arg(2, &mut second);
+fn main(rt: HostRuntime) -> io::Result<()> {
+    let mut first = [0; 4096];
+    let mut second = [0; 4096];
+    let a = rt.arg(1, &mut first).unwrap_or(0);
+    let b = rt.arg(2, &mut second).unwrap_or(0);
     let units = number(&second[..b]);
     let seen = run(named(&first[..a]), units);
     vectors::print_named(
+        &rt,
         b"seen",
         &digest::word_bytes((seen % 4294967296) as u32, true),
-    );
+    )
 }

@@ -1,253 +1,307 @@
 // Starts, polls and losses of the transport, without a relay.
 use super::{build, lines};
+use std::io;
 use turn_state::Client;
 
 // Case 11.
-pub fn rooms() {
+pub fn rooms(rt: &impl Print) -> io::Result<()> {
     let c = build::opened(false);
-    lines::start(b"start-63", c, 0, b"aaaaaaaaaaaa", 63);
-    lines::start(b"start-62", c, 0, b"aaaaaaaaaaaa", 62);
-    lines::start(b"start-60", c, 0, b"aaaaaaaaaaaa", 60);
-    lines::start(b"start-0", c, 0, b"aaaaaaaaaaaa", 0);
-    lines::start(b"start-64", c, 0, b"aaaaaaaaaaaa", 64);
+    lines::start(rt, b"start-63", c, 0, b"aaaaaaaaaaaa", 63)?;
+    lines::start(rt, b"start-62", c, 0, b"aaaaaaaaaaaa", 62)?;
+    lines::start(rt, b"start-60", c, 0, b"aaaaaaaaaaaa", 60)?;
+    lines::start(rt, b"start-0", c, 0, b"aaaaaaaaaaaa", 0)?;
+    lines::start(rt, b"start-64", c, 0, b"aaaaaaaaaaaa", 64)?;
+    Ok(())
 }
 
 // With a realm, a nonce and a key, or without some of them.
-pub fn signed() {
+pub fn signed(rt: &impl Print) -> io::Result<()> {
     let c = build::opened(false);
     let all = build::signing(c, true, true, true);
-    lines::start(b"signed-103", all, 0, b"aaaaaaaaaaaa", 103);
-    lines::start(b"signed-102", all, 0, b"aaaaaaaaaaaa", 102);
+    lines::start(rt, b"signed-103", all, 0, b"aaaaaaaaaaaa", 103)?;
+    lines::start(rt, b"signed-102", all, 0, b"aaaaaaaaaaaa", 102)?;
     lines::start(
+        rt,
         b"signed-no-nonce",
         build::signing(c, true, false, true),
         0,
         b"aaaaaaaaaaaa",
         4096,
-    );
+    )?;
     lines::start(
+        rt,
         b"signed-no-realm",
         build::signing(c, false, true, false),
         0,
         b"aaaaaaaaaaaa",
         4096,
-    );
+    )?;
     lines::start(
+        rt,
         b"signed-no-key",
         build::signing(c, true, true, false),
         0,
         b"aaaaaaaaaaaa",
         4096,
-    );
+    )?;
+    Ok(())
 }
 
-pub fn start_times() {
+pub fn start_times(rt: &impl Print) -> io::Result<()> {
     let c = build::opened(false);
     let last = 9007199254740991;
-    lines::start(b"start-last", c, last, b"aaaaaaaaaaaa", 4096);
-    lines::start(b"start-after", c, last + 1, b"aaaaaaaaaaaa", 4096);
+    lines::start(rt, b"start-last", c, last, b"aaaaaaaaaaaa", 4096)?;
+    lines::start(rt, b"start-after", c, last + 1, b"aaaaaaaaaaaa", 4096)?;
     lines::start(
+        rt,
         b"start-greatest",
         c,
         18446744073709551615,
         b"aaaaaaaaaaaa",
         4096,
-    );
+    )?;
     lines::start(
+        rt,
         b"start-last-reliable",
         build::opened(true),
         last,
         b"aaaaaaaaaaaa",
         4096,
-    );
+    )?;
+    Ok(())
 }
 
-pub fn poll_times() {
+pub fn poll_times(rt: &impl Print) -> io::Result<()> {
     let c = build::opened(false);
     let last = 9007199254740991;
-    lines::poll(b"poll-idle-last", c, last, b"", 0);
-    lines::poll(b"poll-idle-after", c, last + 1, b"", 0);
-    let s = lines::start(b"poll-start", c, 0, b"aaaaaaaaaaaa", 4096);
-    lines::poll(b"poll-last", s, last, b"", 4096);
-    lines::poll(b"poll-after", s, last + 1, b"", 4096);
-    let t = lines::start(b"poll-start-last", c, last, b"aaaaaaaaaaaa", 4096);
-    lines::poll(b"poll-not-due", t, last, b"", 4096);
-    lines::poll(b"poll-due-after", t, last + 500, b"", 4096);
+    lines::poll(rt, b"poll-idle-last", c, last, b"", 0)?;
+    lines::poll(rt, b"poll-idle-after", c, last + 1, b"", 0)?;
+    let s = lines::start(rt, b"poll-start", c, 0, b"aaaaaaaaaaaa", 4096)?;
+    lines::poll(rt, b"poll-last", s, last, b"", 4096)?;
+    lines::poll(rt, b"poll-after", s, last + 1, b"", 4096)?;
+    let t = lines::start(rt, b"poll-start-last", c, last, b"aaaaaaaaaaaa", 4096)?;
+    lines::poll(rt, b"poll-not-due", t, last, b"", 4096)?;
+    lines::poll(rt, b"poll-due-after", t, last + 500, b"", 4096)?;
+    Ok(())
 }
 
 // How many bytes of ids are lent where one is needed.
-pub fn lent() {
+pub fn lent(rt: &impl Print) -> io::Result<()> {
     let c = build::opened(false);
-    lines::start(b"ids-0", c, 0, b"", 4096);
-    lines::start(b"ids-11", c, 0, b"aaaaaaaaaaa", 4096);
-    lines::start(b"ids-12", c, 0, b"aaaaaaaaaaaa", 4096);
-    lines::start(b"ids-13", c, 0, b"aaaaaaaaaaaab", 4096);
-    lines::start(b"ids-23", c, 0, b"aaaaaaaaaaaabbbbbbbbbbb", 4096);
-    lines::start(b"ids-24", c, 0, b"aaaaaaaaaaaabbbbbbbbbbbb", 4096);
-    lines::start(b"ids-24-equal", c, 0, b"aaaaaaaaaaaaaaaaaaaaaaaa", 4096);
+    lines::start(rt, b"ids-0", c, 0, b"", 4096)?;
+    lines::start(rt, b"ids-11", c, 0, b"aaaaaaaaaaa", 4096)?;
+    lines::start(rt, b"ids-12", c, 0, b"aaaaaaaaaaaa", 4096)?;
+    lines::start(rt, b"ids-13", c, 0, b"aaaaaaaaaaaab", 4096)?;
+    lines::start(rt, b"ids-23", c, 0, b"aaaaaaaaaaaabbbbbbbbbbb", 4096)?;
+    lines::start(rt, b"ids-24", c, 0, b"aaaaaaaaaaaabbbbbbbbbbbb", 4096)?;
+    lines::start(rt, b"ids-24-equal", c, 0, b"aaaaaaaaaaaaaaaaaaaaaaaa", 4096)?;
+    Ok(())
 }
 
 // An id that is pending, lent and used, or lent and not used.
-pub fn clashes() {
+pub fn clashes(rt: &impl Print) -> io::Result<()> {
     let c = build::opened(false);
-    let s = lines::start(b"id-a", c, 0, b"aaaaaaaaaaaa", 4096);
-    lines::start(b"id-a-again", s, 0, b"aaaaaaaaaaaa", 4096);
-    lines::start(b"id-a-again-spare", s, 0, b"aaaaaaaaaaaabbbbbbbbbbbb", 4096);
-    let t = lines::start(b"id-b", s, 100, b"bbbbbbbbbbbbaaaaaaaaaaaa", 4096);
-    lines::start(b"id-b-again", t, 100, b"bbbbbbbbbbbb", 4096);
-    lines::start(b"id-last-byte", t, 100, b"bbbbbbbbbbba", 4096);
-    lines::poll(b"id-poll-unused", t, 400, b"aaaaaaaaaaaabbbbbbbbbbbb", 0);
-    lines::poll(b"id-poll-repeat", t, 500, b"aaaaaaaaaaaabbbbbbbbbbbb", 63);
+    let s = lines::start(rt, b"id-a", c, 0, b"aaaaaaaaaaaa", 4096)?;
+    lines::start(rt, b"id-a-again", s, 0, b"aaaaaaaaaaaa", 4096)?;
+    lines::start(
+        rt,
+        b"id-a-again-spare",
+        s,
+        0,
+        b"aaaaaaaaaaaabbbbbbbbbbbb",
+        4096,
+    )?;
+    let t = lines::start(rt, b"id-b", s, 100, b"bbbbbbbbbbbbaaaaaaaaaaaa", 4096)?;
+    lines::start(rt, b"id-b-again", t, 100, b"bbbbbbbbbbbb", 4096)?;
+    lines::start(rt, b"id-last-byte", t, 100, b"bbbbbbbbbbba", 4096)?;
+    lines::poll(
+        rt,
+        b"id-poll-unused",
+        t,
+        400,
+        b"aaaaaaaaaaaabbbbbbbbbbbb",
+        0,
+    )?;
+    lines::poll(
+        rt,
+        b"id-poll-repeat",
+        t,
+        500,
+        b"aaaaaaaaaaaabbbbbbbbbbbb",
+        63,
+    )?;
+    Ok(())
 }
 
 // An id that is no longer pending.
-pub fn used_again() {
+pub fn used_again(rt: &impl Print) -> io::Result<()> {
     let s = build::started(build::opened(true), 1, 0);
-    lines::start(b"again-pending", s, 1, &[0; 12], 4096);
-    let t = lines::poll(b"again-timeout", s, 39500, &[0; 12], 4096);
-    let u = lines::start(b"again-after-timeout", t, 39500, &[0; 12], 4096);
-    let v = lines::lost(b"again-lost", u);
-    lines::start(b"again-after-lost", v, 40000, &[0; 12], 4096);
+    lines::start(rt, b"again-pending", s, 1, &[0; 12], 4096)?;
+    let t = lines::poll(rt, b"again-timeout", s, 39500, &[0; 12], 4096)?;
+    let u = lines::start(rt, b"again-after-timeout", t, 39500, &[0; 12], 4096)?;
+    let v = lines::lost(rt, b"again-lost", u)?;
+    lines::start(rt, b"again-after-lost", v, 40000, &[0; 12], 4096)?;
+    Ok(())
 }
 
 // Two reasons at once: the lower number.
-pub fn lower_number() {
+pub fn lower_number(rt: &impl Print) -> io::Result<()> {
     let c = build::opened(false);
     let after = 9007199254740992;
     let s = build::started(c, 1, 0);
-    lines::start(b"both-1-6", c, after, b"", 4096);
-    lines::start(b"both-1-7", s, after, &[0; 12], 4096);
-    lines::start(b"both-1-8", c, after, b"aaaaaaaaaaaa", 62);
-    lines::poll(b"both-1-8-poll", s, after, b"", 62);
-    lines::start(b"both-6-8", c, 0, b"aaaaaaaaaaa", 62);
-    lines::start(b"both-7-8", s, 0, &[0; 12], 62);
-    lines::start(b"all-1-6-8", c, after, b"", 0);
+    lines::start(rt, b"both-1-6", c, after, b"", 4096)?;
+    lines::start(rt, b"both-1-7", s, after, &[0; 12], 4096)?;
+    lines::start(rt, b"both-1-8", c, after, b"aaaaaaaaaaaa", 62)?;
+    lines::poll(rt, b"both-1-8-poll", s, after, b"", 62)?;
+    lines::start(rt, b"both-6-8", c, 0, b"aaaaaaaaaaa", 62)?;
+    lines::start(rt, b"both-7-8", s, 0, &[0; 12], 62)?;
+    lines::start(rt, b"all-1-6-8", c, after, b"", 0)?;
+    Ok(())
 }
 
 // 63 requests, then 64.
-pub fn full() {
+pub fn full(rt: &impl Print) -> io::Result<()> {
     let c = build::started(build::opened(false), 63, 0);
-    let s = lines::start(b"full-64", c, 100, b"aaaaaaaaaaaa", 4096);
-    lines::start(b"full-65", s, 200, b"bbbbbbbbbbbb", 4096);
-    lines::start(b"full-first", s, 200, &[0; 12], 4096);
-    lines::start(b"full-last", s, 200, b"aaaaaaaaaaaa", 4096);
-    lines::start(b"full-5-6", s, 200, b"", 4096);
-    lines::start(b"full-5-8", s, 200, b"bbbbbbbbbbbb", 0);
-    lines::start(b"full-7-8", s, 200, b"aaaaaaaaaaaa", 0);
-    lines::start(b"full-1-5", s, 9007199254740992, b"bbbbbbbbbbbb", 4096);
+    let s = lines::start(rt, b"full-64", c, 100, b"aaaaaaaaaaaa", 4096)?;
+    lines::start(rt, b"full-65", s, 200, b"bbbbbbbbbbbb", 4096)?;
+    lines::start(rt, b"full-first", s, 200, &[0; 12], 4096)?;
+    lines::start(rt, b"full-last", s, 200, b"aaaaaaaaaaaa", 4096)?;
+    lines::start(rt, b"full-5-6", s, 200, b"", 4096)?;
+    lines::start(rt, b"full-5-8", s, 200, b"bbbbbbbbbbbb", 0)?;
+    lines::start(rt, b"full-7-8", s, 200, b"aaaaaaaaaaaa", 0)?;
+    lines::start(rt, b"full-1-5", s, 9007199254740992, b"bbbbbbbbbbbb", 4096)?;
+    Ok(())
 }
 
 // 64 repeats, 64 failures, and room again.
-pub fn full_polled() {
+pub fn full_polled(rt: &impl Print) -> io::Result<()> {
     let c = build::started(build::opened(false), 64, 0);
-    lines::poll(b"full-poll-4031", c, 500, b"", 4031);
-    let s = lines::poll(b"full-poll-4032", c, 500, b"", 4032);
-    lines::start(b"full-still", s, 500, b"aaaaaaaaaaaa", 4096);
+    lines::poll(rt, b"full-poll-4031", c, 500, b"", 4031)?;
+    let s = lines::poll(rt, b"full-poll-4032", c, 500, b"", 4032)?;
+    lines::start(rt, b"full-still", s, 500, b"aaaaaaaaaaaa", 4096)?;
     let r = build::started(build::opened(true), 64, 0);
-    let t = lines::poll(b"full-timeout", r, 39500, b"", 0);
-    lines::start(b"full-room-again", t, 39500, &[0; 12], 4096);
+    let t = lines::poll(rt, b"full-timeout", r, 39500, b"", 0)?;
+    lines::start(rt, b"full-room-again", t, 39500, &[0; 12], 4096)?;
+    Ok(())
 }
 
 // Case 8.
-pub fn unanswered() {
+pub fn unanswered(rt: &impl Print) -> io::Result<()> {
     let c = build::started(build::opened(false), 1, 0);
-    let d = lines::poll(b"udp-499", c, 499, b"", 4096);
-    let e = lines::poll(b"udp-500", d, 500, b"", 4096);
-    let f = lines::poll(b"udp-1499", e, 1499, b"", 4096);
-    let g = lines::poll(b"udp-1500", f, 1500, b"", 4096);
-    let h = lines::poll(b"udp-3499", g, 3499, b"", 4096);
-    let i = lines::poll(b"udp-3500", h, 3500, b"", 4096);
-    let j = lines::poll(b"udp-7499", i, 7499, b"", 4096);
-    let k = lines::poll(b"udp-7500", j, 7500, b"", 4096);
-    failing(k);
+    let d = lines::poll(rt, b"udp-499", c, 499, b"", 4096)?;
+    let e = lines::poll(rt, b"udp-500", d, 500, b"", 4096)?;
+    let f = lines::poll(rt, b"udp-1499", e, 1499, b"", 4096)?;
+    let g = lines::poll(rt, b"udp-1500", f, 1500, b"", 4096)?;
+    let h = lines::poll(rt, b"udp-3499", g, 3499, b"", 4096)?;
+    let i = lines::poll(rt, b"udp-3500", h, 3500, b"", 4096)?;
+    let j = lines::poll(rt, b"udp-7499", i, 7499, b"", 4096)?;
+    let k = lines::poll(rt, b"udp-7500", j, 7500, b"", 4096)?;
+    failing(rt, k)
 }
 
-fn failing(c: Client) {
-    let d = lines::poll(b"udp-11499", c, 11499, b"", 4096);
-    let e = lines::poll(b"udp-11500", d, 11500, b"", 4096);
-    let f = lines::poll(b"udp-15499", e, 15499, b"", 4096);
-    let g = lines::poll(b"udp-15500", f, 15500, b"", 0);
-    lines::poll(b"udp-15501", g, 15501, b"", 4096);
+fn failing(rt: &impl Print, c: Client) -> io::Result<()> {
+    let d = lines::poll(rt, b"udp-11499", c, 11499, b"", 4096)?;
+    let e = lines::poll(rt, b"udp-11500", d, 11500, b"", 4096)?;
+    let f = lines::poll(rt, b"udp-15499", e, 15499, b"", 4096)?;
+    let g = lines::poll(rt, b"udp-15500", f, 15500, b"", 0)?;
+    lines::poll(rt, b"udp-15501", g, 15501, b"", 4096)?;
+    Ok(())
 }
 
 // After a failure: `start` looks at nothing.
-pub fn failed() {
+pub fn failed(rt: &impl Print) -> io::Result<()> {
     let c = build::started(build::opened(true), 2, 0);
-    let d = lines::poll(b"failed-two", c, 39500, b"", 0);
-    let e = lines::start(b"failed-start", d, 39500, b"aaaaaaaaaaaa", 4096);
-    lines::lost(b"failed-lost", e);
+    let d = lines::poll(rt, b"failed-two", c, 39500, b"", 0)?;
+    let e = lines::start(rt, b"failed-start", d, 39500, b"aaaaaaaaaaaa", 4096)?;
+    lines::lost(rt, b"failed-lost", e)?;
+    Ok(())
 }
 
-pub fn reliable() {
+pub fn reliable(rt: &impl Print) -> io::Result<()> {
     let c = lines::start(
+        rt,
         b"stream-start",
         build::opened(true),
         0,
         b"aaaaaaaaaaaa",
         4096,
-    );
-    let d = lines::poll(b"stream-500", c, 500, b"", 4096);
-    let e = lines::poll(b"stream-39499", d, 39499, b"", 4096);
-    let f = lines::poll(b"stream-39500", e, 39500, b"", 0);
-    lines::poll(b"stream-39501", f, 39501, b"", 4096);
+    )?;
+    let d = lines::poll(rt, b"stream-500", c, 500, b"", 4096)?;
+    let e = lines::poll(rt, b"stream-39499", d, 39499, b"", 4096)?;
+    let f = lines::poll(rt, b"stream-39500", e, 39500, b"", 0)?;
+    lines::poll(rt, b"stream-39501", f, 39501, b"", 4096)?;
+    Ok(())
 }
 
 // A repeated request goes last, and that order decides the next packets.
-pub fn order() {
-    let c = lines::start(b"order-a", build::opened(false), 0, b"aaaaaaaaaaaa", 4096);
-    let d = lines::start(b"order-b", c, 100, b"bbbbbbbbbbbb", 4096);
-    let e = lines::poll(b"order-500", d, 500, b"", 4096);
-    lines::poll(b"order-1500-125", e, 1500, b"", 125);
-    let f = lines::poll(b"order-1500", e, 1500, b"", 126);
-    lines::poll(b"order-3500", f, 3500, b"", 4096);
+pub fn order(rt: &impl Print) -> io::Result<()> {
+    let c = lines::start(
+        rt,
+        b"order-a",
+        build::opened(false),
+        0,
+        b"aaaaaaaaaaaa",
+        4096,
+    )?;
+    let d = lines::start(rt, b"order-b", c, 100, b"bbbbbbbbbbbb", 4096)?;
+    let e = lines::poll(rt, b"order-500", d, 500, b"", 4096)?;
+    lines::poll(rt, b"order-1500-125", e, 1500, b"", 125)?;
+    let f = lines::poll(rt, b"order-1500", e, 1500, b"", 126)?;
+    lines::poll(rt, b"order-3500", f, 3500, b"", 4096)?;
+    Ok(())
 }
 
 // A late poll sends once, and the wait counts from it; a time may go back.
-pub fn late() {
+pub fn late(rt: &impl Print) -> io::Result<()> {
     let c = build::started(build::opened(false), 1, 1000);
-    let d = lines::poll(b"late-back", c, 0, b"", 4096);
-    let e = lines::poll(b"late-90000", d, 90000, b"", 4096);
-    let f = lines::poll(b"late-91000", e, 91000, b"", 4096);
-    lines::start(b"late-start-back", f, 10, b"aaaaaaaaaaaa", 4096);
+    let d = lines::poll(rt, b"late-back", c, 0, b"", 4096)?;
+    let e = lines::poll(rt, b"late-90000", d, 90000, b"", 4096)?;
+    let f = lines::poll(rt, b"late-91000", e, 91000, b"", 4096)?;
+    lines::start(rt, b"late-start-back", f, 10, b"aaaaaaaaaaaa", 4096)?;
+    Ok(())
 }
 
 // A repeat is written with what is held then.
-pub fn afresh() {
+pub fn afresh(rt: &impl Print) -> io::Result<()> {
     let c = build::started(build::opened(false), 1, 0);
     let d = build::signing(c, true, true, true);
-    lines::poll(b"afresh-102", d, 500, b"", 102);
-    lines::poll(b"afresh-103", d, 500, b"", 103);
+    lines::poll(rt, b"afresh-102", d, 500, b"", 102)?;
+    lines::poll(rt, b"afresh-103", d, 500, b"", 103)?;
+    Ok(())
 }
 
 // Document 01's example.
-pub fn listing() {
+pub fn listing(rt: &impl Print) -> io::Result<()> {
     let mut out = [0u8; 4096];
     let c = build::opened(false);
     let s = turn_poll::start(c, 1000, &[0; 12], &mut out);
-    let t = lines::listed(b"1 start", s);
+    let t = lines::listed(rt, b"1 start", s)?;
     let u = turn_poll::poll(t, 1499, b"", &mut out);
-    let v = lines::listed(b"2 poll", u);
+    let v = lines::listed(rt, b"2 poll", u)?;
     let w = turn_poll::poll(v, 1500, b"", &mut out);
-    let x = lines::listed(b"3 poll", w);
+    let x = lines::listed(rt, b"3 poll", w)?;
     let y = turn_open::lost(x);
-    lines::listed(b"4 lost", y);
+    lines::listed(rt, b"4 lost", y)?;
+    Ok(())
 }
 
 // Without a relay, an event each time, also where there never was a start; what is pending goes.
-pub fn lost() {
+pub fn lost(rt: &impl Print) -> io::Result<()> {
     let c = build::opened(false);
-    let d = lines::lost(b"lost-unstarted", c);
-    lines::lost(b"lost-unstarted-again", d);
-    let e = lines::lost(b"lost-started", build::started(c, 2, 0));
-    let f = lines::lost(b"lost-started-again", e);
-    let g = lines::start(b"lost-start", f, 1000, &[0; 12], 4096);
-    lines::poll(b"lost-poll", g, 1500, b"", 4096);
+    let d = lines::lost(rt, b"lost-unstarted", c)?;
+    lines::lost(rt, b"lost-unstarted-again", d)?;
+    let e = lines::lost(rt, b"lost-started", build::started(c, 2, 0))?;
+    let f = lines::lost(rt, b"lost-started-again", e)?;
+    let g = lines::start(rt, b"lost-start", f, 1000, &[0; 12], 4096)?;
+    lines::poll(rt, b"lost-poll", g, 1500, b"", 4096)?;
+    Ok(())
 }
 
 // With a relay, no event; what was to be renewed is no longer.
-pub fn lost_relayed() {
+pub fn lost_relayed(rt: &impl Print) -> io::Result<()> {
     let c = build::refreshing(build::started(build::opened(false), 2, 0), 540000);
-    let d = lines::lost(b"lost-relayed", c);
-    let e = lines::lost(b"lost-relayed-again", d);
-    lines::poll(b"lost-relayed-poll", e, 600000, b"", 0);
+    let d = lines::lost(rt, b"lost-relayed", c)?;
+    let e = lines::lost(rt, b"lost-relayed-again", d)?;
+    lines::poll(rt, b"lost-relayed-poll", e, 600000, b"", 0)?;
+    Ok(())
 }

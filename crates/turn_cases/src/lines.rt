@@ -3,21 +3,21 @@
 // of each packet, where there are at most eight.
 ghost use Rattle.std.specs.Prelude.{◌≡◌, ◌≤◌, length};
 
-use libc::STDOUT_FILENO;
+use std::io;
 use turn_deadline::Deadline;
 use turn_state::{Answer, Client, Event, Reason};
 
-pub fn print(s: &[u8]) {
-    io::write_all(STDOUT_FILENO, s);
+pub fn print(rt: &impl Print, s: &[u8]) -> io::Result<()> {
+    rt.write_all(s)
 }
 
-fn number(n: u64) {
-    print(b" ");
-    io::print_decimal(STDOUT_FILENO, n);
+fn number(rt: &impl Print, n: u64) -> io::Result<()> {
+    print(rt, b" ")?;
+    print!(rt; "{n}")
 }
 
-fn size(n: usize) {
-    number(n as u64);
+fn size(rt: &impl Print, n: usize) -> io::Result<()> {
+    number(rt, n as u64)
 }
 
 // The packets' bytes without the three of each head.
@@ -31,47 +31,50 @@ fn bare(len: usize, packets: usize) -> usize {
     len - 3 * packets
 }
 
-fn print_deadline(client: Client) {
+fn print_deadline(rt: &impl Print, client: Client) -> io::Result<()> {
     match turn_deadline::next_deadline(client) {
-        Deadline::At(t) => number(t),
-        Deadline::Never => print(b" -"),
+        Deadline::At(t) => number(rt, t)?,
+        Deadline::Never => print(rt, b" -")?,
     }
+    Ok(())
 }
 
-fn print_reason(reason: Reason) {
+fn print_reason(rt: &impl Print, reason: Reason) -> io::Result<()> {
     match reason {
-        Reason::Timeout => print(b" timeout"),
-        Reason::Lost => print(b" lost"),
-        Reason::Code(_) => print(b" code"),
-        Reason::NoRelayedAddress => print(b" no-address"),
+        Reason::Timeout => print(rt, b" timeout")?,
+        Reason::Lost => print(rt, b" lost")?,
+        Reason::Code(_) => print(rt, b" code")?,
+        Reason::NoRelayedAddress => print(rt, b" no-address")?,
     }
+    Ok(())
 }
 
-fn print_event(event: Event) {
+fn print_event(rt: &impl Print, event: Event) -> io::Result<()> {
     match event {
-        Event::Nothing => print(b""),
-        Event::Failed(reason) => print_reason(reason),
-        Event::Allocated(_, _) => print(b" allocated"),
-        Event::Data(_, _, _) => print(b" data"),
+        Event::Nothing => print(rt, b"")?,
+        Event::Failed(reason) => print_reason(rt, reason)?,
+        Event::Allocated(_, _) => print(rt, b" allocated")?,
+        Event::Data(_, _, _) => print(rt, b" data")?,
     }
+    Ok(())
 }
 
 // The line as document 01 has it, without its end.
-pub fn print_answer(label: &[u8], a: Answer) {
-    print(label);
-    number(a.refusal as u64);
-    size(a.events);
-    size(a.packets);
-    size(bare(a.len, a.packets));
+pub fn print_answer(rt: &impl Print, label: &[u8], a: Answer) -> io::Result<()> {
+    print(rt, label)?;
+    number(rt, a.refusal as u64)?;
+    size(rt, a.events)?;
+    size(rt, a.packets)?;
+    size(rt, bare(a.len, a.packets))?;
     let client = a.client;
-    print_deadline(client);
+    print_deadline(rt, client)
 }
 
 // The line as document 01 has it.
-pub fn listed(label: &[u8], a: Answer) -> Client {
-    print_answer(label, a);
-    print(b"\n");
-    a.client
+pub fn listed(rt: &impl Print, label: &[u8], a: Answer) -> io::Result<Client> {
+    print_answer(rt, label, a)?;
+    print(rt, b"\n")?;
+    Ok(a.client)
 }
 
 // Are the bytes from a place on as they were lent?
@@ -109,34 +112,36 @@ fn same(a: Client, b: Client) -> bool {
     a.channels.len == b.channels.len
 }
 
-fn print_kept(out: &[u8], from: usize) {
+fn print_kept(rt: &impl Print, out: &[u8], from: usize) -> io::Result<()> {
     if kept(out, from) {
-        print(b" kept");
+        print(rt, b" kept")?;
     } else {
-        print(b" spoilt");
+        print(rt, b" spoilt")?;
     }
+    Ok(())
 }
 
-fn print_same(refusal: u32, a: Client, b: Client) {
+fn print_same(rt: &impl Print, refusal: u32, a: Client, b: Client) -> io::Result<()> {
     if refusal == 0 {
-        return;
+        return Ok(());
     }
     if same(a, b) {
-        print(b" same");
+        print(rt, b" same")?;
     } else {
-        print(b" other");
+        print(rt, b" other")?;
     }
+    Ok(())
 }
 
-fn print_sum(out: &[u8], len: usize) {
+fn print_sum(rt: &impl Print, out: &[u8], len: usize) -> io::Result<()> {
     if len == 0 {
-        return;
+        return Ok(());
     }
     if out.len() < len {
-        return;
+        return Ok(());
     }
-    print(b" ");
-    io::print_hex(STDOUT_FILENO, crc32::digest(&out[0..len]) as u64, 8);
+    print(rt, b" ")?;
+    print!(rt; "{:08x}", crc32::digest(&out[0..len]))
 }
 
 fn joined(high: u8, low: u8) -> usize {
@@ -144,38 +149,45 @@ fn joined(high: u8, low: u8) -> usize {
 }
 
 // The headers of the packets.
-fn print_heads(out: &[u8], packets: usize) {
+fn print_heads(rt: &impl Print, out: &[u8], packets: usize) -> io::Result<()> {
     if 8 < packets {
-        return;
+        return Ok(());
     }
     let n = out.len();
     let mut at = 0;
     let mut k = 0;
     while k < packets {
         if n - at < 23 {
-            return;
+            return Ok(());
         }
-        vectors::print_named(b" ", &out[at + 3..at + 23]);
+        vectors::print_named(rt, b" ", &out[at + 3..at + 23])?;
         let len = joined(out[at + 1], out[at + 2]);
         if n - at - 3 < len {
-            return;
+            return Ok(());
         }
         at = at + 3 + len;
         k += 1;
     }
+    Ok(())
 }
 
-fn finish(label: &[u8], before: Client, a: Answer, out: &[u8]) -> Client {
-    print_answer(label, a);
+fn finish(
+    rt: &impl Print,
+    label: &[u8],
+    before: Client,
+    a: Answer,
+    out: &[u8],
+) -> io::Result<Client> {
+    print_answer(rt, label, a)?;
     let event = a.event;
-    print_event(event);
-    print_kept(out, a.len);
+    print_event(rt, event)?;
+    print_kept(rt, out, a.len)?;
     let client = a.client;
-    print_same(a.refusal, before, client);
-    print_sum(out, a.len);
-    print(b"\n");
-    print_heads(out, a.packets);
-    client
+    print_same(rt, a.refusal, before, client)?;
+    print_sum(rt, out, a.len)?;
+    print(rt, b"\n")?;
+    print_heads(rt, out, a.packets)?;
+    Ok(client)
 }
 
 // The output that is lent.
@@ -185,80 +197,115 @@ fn fresh_output() -> [u8; 4096]
     [0xAA; 4096]
 }
 
-pub fn start(label: &[u8], client: Client, time: u64, ids: &[u8], room: usize) -> Client
+pub fn start(
+    rt: &impl Print,
+    label: &[u8],
+    client: Client,
+    time: u64,
+    ids: &[u8],
+    room: usize,
+) -> io::Result<Client>
     requires { room ≤ 4096 }
 {
     let mut out = fresh_output();
-    start_in(label, client, time, ids, &mut out, room)
+    start_in(rt, label, client, time, ids, &mut out, room)
 }
 
 fn start_in(
+    rt: &impl Print,
     label: &[u8],
     client: Client,
     time: u64,
     ids: &[u8],
     out: &mut [u8],
     room: usize,
-) -> Client
+) -> io::Result<Client>
     requires { room ≤ length out.old }
 {
     let a = turn_poll::start(client, time, ids, &mut out[0..room]);
-    finish(label, client, a, out)
+    finish(rt, label, client, a, out)
 }
 
-pub fn poll(label: &[u8], client: Client, time: u64, ids: &[u8], room: usize) -> Client
+pub fn poll(
+    rt: &impl Print,
+    label: &[u8],
+    client: Client,
+    time: u64,
+    ids: &[u8],
+    room: usize,
+) -> io::Result<Client>
     requires { room ≤ 4096 }
 {
     let mut out = fresh_output();
-    poll_in(label, client, time, ids, &mut out, room)
+    poll_in(rt, label, client, time, ids, &mut out, room)
 }
 
 fn poll_in(
+    rt: &impl Print,
     label: &[u8],
     client: Client,
     time: u64,
     ids: &[u8],
     out: &mut [u8],
     room: usize,
-) -> Client
+) -> io::Result<Client>
     requires { room ≤ length out.old }
 {
     let a = turn_poll::poll(client, time, ids, &mut out[0..room]);
-    finish(label, client, a, out)
+    finish(rt, label, client, a, out)
 }
 
-pub fn close(label: &[u8], client: Client, ids: &[u8], room: usize) -> Client
+pub fn close(
+    rt: &impl Print,
+    label: &[u8],
+    client: Client,
+    ids: &[u8],
+    room: usize,
+) -> io::Result<Client>
     requires { room ≤ 4096 }
 {
     let mut out = fresh_output();
-    close_in(label, client, ids, &mut out, room)
+    close_in(rt, label, client, ids, &mut out, room)
 }
 
-fn close_in(label: &[u8], client: Client, ids: &[u8], out: &mut [u8], room: usize) -> Client
+fn close_in(
+    rt: &impl Print,
+    label: &[u8],
+    client: Client,
+    ids: &[u8],
+    out: &mut [u8],
+    room: usize,
+) -> io::Result<Client>
     requires { room ≤ length out.old }
 {
     let a = turn_close::close(client, ids, &mut out[0..room]);
-    finish(label, client, a, out)
+    finish(rt, label, client, a, out)
 }
 
-pub fn lost(label: &[u8], client: Client) -> Client {
+pub fn lost(rt: &impl Print, label: &[u8], client: Client) -> io::Result<Client> {
     let a = turn_open::lost(client);
-    print_answer(label, a);
+    print_answer(rt, label, a)?;
     let event = a.event;
-    print_event(event);
-    print(b"\n");
-    a.client
+    print_event(rt, event)?;
+    print(rt, b"\n")?;
+    Ok(a.client)
 }
 
 // LABEL REFUSAL, how long the held username and password are, and the deadline.
-pub fn open(label: &[u8], username: &[u8], password: &[u8], reliable: bool) -> Client {
+pub fn open(
+    rt: &impl Print,
+    label: &[u8],
+    username: &[u8],
+    password: &[u8],
+    reliable: bool,
+) -> io::Result<Client> {
     let o = turn_open::open(username, password, reliable);
     let client = o.client;
-    print(label);
-    number(o.refusal as u64);
-    size(client.credentials.username.len);
-    size(client.password.len);
-    print_deadline(client);
-    print(b"\n");
-    client
+    print(rt, label)?;
+    number(rt, o.refusal as u64)?;
+    size(rt, client.credentials.username.len)?;
+    size(rt, client.password.len)?;
+    print_deadline(rt, client)?;
+    print(rt, b"\n")?;
+    Ok(client)
 }

@@ -1,10 +1,13 @@
 // What the programs that print digests share: the bytes that they digest, where they cut them, and
 // the lines that they print.
+#![tactic(auto)]
+
 mod line;
 
 ghost use Rattle.std.specs.Prelude.{◌≡◌, length};
 
 use line::Line;
+use std::io;
 
 // How many cuts `cut` has.
 pub const CUTS: usize = 19;
@@ -65,36 +68,36 @@ pub fn cut(i: usize) -> usize {
 }
 
 // NAME HEX
-pub fn print_named(name: &[u8], digest: &[u8]) {
-    Line::new().text(name).text(b" ").hex(digest).print();
+pub fn print_named(rt: &impl Print, name: &[u8], digest: &[u8]) -> io::Result<()> {
+    Line::new().text(name).text(b" ").hex(digest).print(rt)
 }
 
 // N HEX, for a message of n bytes in one part.
-pub fn print_whole(n: usize, digest: &[u8]) {
-    Line::new().number(n).text(b" ").hex(digest).print();
+pub fn print_whole(rt: &impl Print, n: usize, digest: &[u8]) -> io::Result<()> {
+    Line::new().number(n).text(b" ").hex(digest).print(rt)
 }
 
 // N C HEX, for a message of n bytes in two parts, the first of c bytes.
-pub fn print_cut(n: usize, c: usize, digest: &[u8]) {
+pub fn print_cut(rt: &impl Print, n: usize, c: usize, digest: &[u8]) -> io::Result<()> {
     Line::new()
         .number(n)
         .text(b" ")
         .number(c)
         .text(b" ")
         .hex(digest)
-        .print();
+        .print(rt)
 }
 
 // N 1 64 129 HEX, for a message of n bytes in four parts, cut at these three.
-pub fn print_four(n: usize, digest: &[u8]) {
+pub fn print_four(rt: &impl Print, n: usize, digest: &[u8]) -> io::Result<()> {
     Line::new()
         .number(n)
         .text(b" 1 64 129 ")
         .hex(digest)
-        .print();
+        .print(rt)
 }
 
 // key K, above the lines of the messages under a key of k bytes.
-pub fn print_key(k: usize) {
-    Line::new().text(b"key ").number(k).print();
+pub fn print_key(rt: &impl Print, k: usize) -> io::Result<()> {
+    Line::new().text(b"key ").number(k).print(rt)
 }

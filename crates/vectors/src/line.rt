@@ -1,5 +1,5 @@
 // A line of output, put together from its parts and written by one call.
-use libc::STDOUT_FILENO;
+use std::io;
 
 // The first `used` bytes of `text`. What does not fit is left out.
 #[derive(Drop)]
@@ -36,9 +36,8 @@ impl Line {
 
     // n in decimal.
     pub fn number(self, n: usize) -> Self {
-        let mut digits = [0u8; 20];
-        let k = io::decimal(n as u64, &mut digits);
-        self.text(&digits[..k])
+        let line = if n < 10 { self } else { self.number(n / 10) };
+        line.byte(b'0' + (n % 10) as u8)
     }
 
     // Each byte as two hexadecimal digits.
@@ -51,14 +50,15 @@ impl Line {
     }
 
     // Writes the line, with a line end.
-    pub fn print(self) {
+    pub fn print(self, rt: &impl Print) -> io::Result<()> {
         let ended = self.byte(b'\n');
         let text = ended.text;
         let all: &[u8] = &text;
         let n = ended.used;
         if n <= all.len() {
-            io::write_all(STDOUT_FILENO, &all[0..n]);
+            rt.write_all(&all[0..n])?;
         }
+        Ok(())
     }
 }
 

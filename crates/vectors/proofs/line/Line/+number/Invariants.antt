@@ -1,0 +1,5 @@
+-- Each call has a digit less.
+use Rattle.vectors.proofs.line.Line.+number.Given as goal
+
+abbrev pub decreases-number : goal.decreases-number
+decreases-number l = l.n
