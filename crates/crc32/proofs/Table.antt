@@ -1,13 +1,16 @@
--- The table's rule at all of its entries, by one test that antt computes, one entry after the other.
+-- The table's rule at all of its entries, by one test that antt computes, one entry after the other; and the step through it.
 -- Assumes nothing.
-use mathlib.Core.Path.{◌≡◌, ◌∙◌, subst, sym}
+use mathlib.Core.Path.{◌≡◌, ◌∙◌, ap, subst, sym}
 use mathlib.Core.Bool.{Bool, true, false}
 use mathlib.Core.List.{List, [], ◌∷◌}
-use Prim.Native.Nat.{ℕ, zero, suc, ◌+◌, ◌<◌}
-use native.Mathlib.Nat.{add-zero, zero-add, add-suc, suc-add, le_of_suc-le-suc, not-suc-le-zero}
-use lib.Dec.{T, eqb, eqb→eq}
+use Prim.Native.Nat.{ℕ, zero, suc, ◌+◌, ◌/◌, ◌%◌, ◌<◌}
+use native.Mathlib.Nat.{mod-lt, add-zero, zero-add, add-suc, suc-add, le_of_suc-le-suc, not-suc-le-zero}
+use lib.Bits.{bit_xor, xor_lt}
+use lib.Dec.{T, eqb, eqb→eq, lit<}
 use lib.ListN.{length, get_or}
+use Rattle.crc32.specs.Register.{with_bits}
 use Rattle.crc32.specs.Table.{entry, IsTable}
+use Rattle.crc32.proofs.Byte.{byte}
 
 abbrev pub both : Bool → Bool → Bool
 both true b = b
@@ -42,3 +45,11 @@ right k x = eqb x (entry k)
 pub table : (xs : List ℕ) → length xs ≡ 256 → T (every right 0 xs) → IsTable xs
 table xs e t =
     record { rule = λ n h. eqb→eq (get_or xs n 0) (entry n) (at right xs t n (subst (λ (m : ℕ). n < m) (sym e) h)) }
+
+-- the index is below 256, so the table's rule holds at it
+pub below : (c b : ℕ) → b < 256 → bit_xor (c % 256) b < 256
+below c b h = xor_lt 8 (c % 256) b (mod-lt c (lit< tt)) h
+
+pub stepped : (xs : List ℕ) (c b : ℕ) → length xs ≡ 256 → T (every right 0 xs) → b < 256
+    → bit_xor (c / 256) (get_or xs (bit_xor (c % 256) b) 0) ≡ with_bits 8 c b
+stepped xs c b n t h = ap (bit_xor (c / 256)) ((table xs n t).rule _ (below c b h)) ∙ sym (byte c b h)

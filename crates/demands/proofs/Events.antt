@@ -1,21 +1,15 @@
 -- A call's events are one event, so many times: at most one, but for `poll`, which tells only of timeouts.
+use Rattle.std.specs.Prelude.{Option, None, Some}
 use mathlib.Core.Path.{◌≡◌, refl, ap, sym, subst, ◌∙◌}
 use mathlib.Core.Bool.{Bool, true, false, cond, ◌&&◌, ◌||◌, not}
 use mathlib.Core.List.{List, [], ◌∷◌, map, ◌++◌}
-use mathlib.Core.Option.{Option, none, some}
 use Prim.Native.Nat.{ℕ, ◌+◌}
 use lib.ListN.{length, replicate}
 use lib.Dec.{leb, ltb, eqb}
 use Rattle.stun_frame.specs.declared.classes.Class.{Class}
 use Rattle.stun_frame.specs.declared.classes.Class.TheVariants.{Request, Indication, Success, Error}
-use Rattle.stun_frame.specs.declared.Channel.{Channel}
-use Rattle.stun_frame.specs.declared.Channel.TheVariants.{Data as ChannelOf, Nothing as NoChannel}
 use Rattle.stun_frame.specs.Source.{class, field_at, decode_channel_data}
 use Rattle.stun_address.specs.declared.Address.{Address}
-use Rattle.stun_address.specs.declared.Peer.{Peer}
-use Rattle.stun_address.specs.declared.Peer.TheVariants.{At, Nothing as NoPeer}
-use Rattle.stun_walk.specs.declared.Found.{Found}
-use Rattle.stun_walk.specs.declared.Found.TheVariants.{At as Lies, Nothing as Missing}
 use Rattle.stun_walk.specs.Source.{readable, get_of, error_code_of, xor_addr_of}
 use Rattle.turn_state.specs.declared.Kind.{Kind}
 use Rattle.turn_state.specs.declared.Kind.TheVariants.{Allocate, Refresh, Permission, ChannelBind}
@@ -31,9 +25,12 @@ use Rattle.turn_state.specs.View.{Each, no_rows, row, told}
 use Rattle.turn.proofs.Steps.{each_keeps, if_there, either_way, add_ev, inserted_ev}
 use Rattle.turn.proofs.Missed.{TimedOut, only_timeouts, request_ev, bind_ev, permission_ev}
 use Rattle.turn.proofs.Refused.{run_of}
+use Rattle.stun_frame.specs.declared.ChannelData.{ChannelData}
+use Rattle.stun_walk.specs.declared.Value.{Value}
+use Rattle.demands.specs.Demand2.{times}
 
 abbrev pub OneEvent : List Event → Type 0
-OneEvent l = l ≡ replicate (length l) (told l)
+OneEvent l = l ≡ times (length l) (told l)
 
 all_timeouts : {l : List Event} → Each TimedOut l → l ≡ replicate (length l) (Failed Timeout)
 all_timeouts no_rows = refl
@@ -111,8 +108,8 @@ either_few true x y h k = h
 either_few false x y h k = k
 
 there_few : {X : Type 0} (o : Option X) (f : X → Run) (s : Run) → ((x : X) → Few (f x)) → Few s → Few (if_let o f s)
-there_few none f s h k = k
-there_few (some x) f s h k = h x
+there_few None f s h k = k
+there_few (Some x) f s h k = h x
 
 failure_few : (kind : Kind) (why : Reason) (s : Run) → Quiet s → Few (on_failure kind why s)
 unfolding on_failure
@@ -125,12 +122,12 @@ success_few : (now : ℕ) (kind : Kind) (buf : List ℕ) (s : Run) → Quiet s �
 unfolding on_success
 success_few now Allocate buf s q = by (xor_addr_of buf 0x0016)
   where
-    by : (p : Peer) → Few (allocated now buf p s)
-    by NoPeer = failure_few Allocate NoRelayedAddress s q
-    by (At relay) = tell_few _ q
+    by : (p : Option Address) → Few (allocated now buf p s)
+    by None = failure_few Allocate NoRelayedAddress s q
+    by (Some relay) = tell_few _ q
 success_few now (Refresh lifetime) buf s q = either_few (ltb 0 lifetime) _ s (few q) (few q)
 success_few now (Permission ip) buf s q =
-    let p : Perm = record { ip = ip; refresh = some (now + 240000) } in
+    let p : Perm = record { ip = ip; refresh = Some (now + 240000) } in
     few (each_keeps Quiet (bind_channel now) (λ peer r h. bind_ev now peer r ∙ h) (map (λ c. c.peer) (filter (waiting ip) (insert_perm p s).self.chans)) (insert_perm p s) (perm_ev p s ∙ q))
 success_few now (ChannelBind peer num) buf s q = there_few (get (for_peer peer) s.self.chans) _ s (λ c. few q) (few q)
 
@@ -149,18 +146,18 @@ answer_few now buf t s q =
     let without : Run = on_self (set_txns (remove (under_id (tid_of buf)) s.self.txns)) s in
     either_few (is_answer cls && passed s.self.key buf cls) (answered now buf cls t without) s (answered_few now buf cls t without q) (few q)
 
-indicated_few : (p : Peer) (f : Found) (s : Run) → Quiet s → Few (indicated p f s)
-indicated_few (At peer) (Lies start len) s q = tell_few (Data peer start len) q
-indicated_few (At peer) Missing s q = few q
-indicated_few NoPeer f s q = few q
+indicated_few : (p : Option Address) (f : Option Value) (s : Run) → Quiet s → Few (indicated p f s)
+indicated_few (Some peer) (Some v) s q = tell_few (Data peer v.start v.len) q
+indicated_few (Some peer) None s q = few q
+indicated_few None f s q = few q
 
 handle_few : (now : ℕ) (buf : List ℕ) (s : Run) → Quiet s → Few (handle now buf s)
 unfolding handle
 handle_few now buf s q = by (decode_channel_data buf)
   where
-    by : (c : Channel) → Few (handle_channel now buf c s)
-    by (ChannelOf num start len) = there_few (get (of_number num) s.self.chans) _ s (λ c. tell_few (Data c.peer start len) q) (few q)
-    by NoChannel =
+    by : (c : Option ChannelData) → Few (handle_channel now buf c s)
+    by (Some d) = there_few (get (of_number d.number) s.self.chans) _ s (λ c. tell_few (Data c.peer d.start d.len) q) (few q)
+    by None =
         either_few (readable buf) (handle_message now buf s) s
         (either_few (eqb (field_at buf 0) 0x0017) (indicated (xor_addr_of buf 0x0012) (get_of buf 0x0013) s) _ (indicated_few (xor_addr_of buf 0x0012) (get_of buf 0x0013) s q)
         (there_few (get (under_id (tid_of buf)) s.self.txns) (λ t. answer now buf t s) s (λ t. answer_few now buf t s q) (few q)))

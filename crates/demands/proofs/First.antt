@@ -14,7 +14,6 @@ use Rattle.turn_state.specs.State.{Turn, Run, ids_in}
 use Rattle.turn_state.specs.Number.{Given, above, full, clash, pending, number, framed, open_number}
 use Rattle.turn_state.specs.Sequence.{outcome}
 use Rattle.turn_state.specs.View.{view, either, told}
-use Rattle.turn_deadline.specs.Times.{deadline_of}
 use Rattle.turn.proofs.Refused.{Unmoved, refused, refusal, given_of, run_of, opening_refused}
 use Rattle.demands.specs.History.{Step, Allowed, Along, end, next}
 use Rattle.demands.specs.Demand1.{Unchanged, Numbered, Demand1}
@@ -74,7 +73,7 @@ step_numbered c s a =
           event = m.event ∙ ap told u.events;
           packets = m.packets ∙ ap length u.packets;
           len = m.len ∙ ap length ps;
-          deadline = a.deadline ∙ ap (λ (x : Client). deadline_of (next_deadline (view x))) same;
+          deadline = a.deadline ∙ ap (λ (x : Client). next_deadline (view x)) same;
         }
 
 pub along : {P Q : Client → Step → Type 0} → ((c : Client) (s : Step) → P c s → Q c s) → {c : Client} {steps : List Step} → Along P c steps → Along Q c steps

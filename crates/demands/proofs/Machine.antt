@@ -1,19 +1,15 @@
 -- Machine numbers: the steps of a call keep `Fits` (Kept), so every accepted call does, and a refused one hands the client back.
+use Rattle.std.specs.Prelude.{Option, None, Some}
 use mathlib.Core.Path.{◌≡◌, refl, sym, subst}
 use mathlib.Core.Logic.{◌⊎◌, inl, inr}
 use mathlib.Core.Bool.{Bool, true, false, cond}
 use mathlib.Core.List.{List, []}
-use mathlib.Core.Option.{Option, none}
 use Prim.Native.Nat.{ℕ, zero, suc, ◌+◌, ◌*◌, ◌%◌, ◌^◌, ◌≤◌, ◌<◌}
 use native.Mathlib.Omega.{arith}
 use lib.ListN.{get_or}
 use lib.Dec.{leb, ltb}
 use borrow.Author.Tests.{leb-false, ltb-false}
 use Rattle.stun_frame.specs.Source.{field_at}
-use Rattle.stun_walk.specs.declared.Found.{Found}
-use Rattle.stun_walk.specs.declared.Found.TheVariants.{At, Nothing}
-use Rattle.stun_walk.specs.declared.Granted.{Granted}
-use Rattle.stun_walk.specs.declared.Granted.TheVariants.{Seconds, NoLifetime}
 use Rattle.stun_walk.specs.Source.{get_of, code_in, error_code_of, lifetime_in, lifetime_of}
 use Rattle.turn_state.specs.declared.Client.{Client}
 use Rattle.turn_state.specs.State.{Txn, Perm, Chan, Turn, begin, set_txns, set_perms, set_chans, set_refresh_at}
@@ -26,6 +22,7 @@ use Rattle.turn.proofs.Calls.{call_keeps, opening_keeps}
 use Rattle.turn.proofs.Kept.{Renewal, not_yet, later, Fact, Keeps, time_of, datagram_of, method_kept}
 use Rattle.demands.specs.History.{Bytes, Typed, Step, Allowed, Along, end, next}
 use Rattle.demands.specs.Machine.{LAST_TIME, Within, WithinIf, KindFits, TxnFits, ChanFits, LONGEST, Fits, CodeFits, LifetimeFits, ReadFits, LongestFits, MachineNumbers}
+use Rattle.stun_walk.specs.declared.Value.{Value}
 
 -- a byte of a list of bytes, or the 0 that stands for none
 byte_at : {l : List ℕ} → Bytes l → (i : ℕ) → get_or l i 0 < 2 ^ 8
@@ -39,33 +36,33 @@ module _ (buf : List ℕ) (b : Bytes buf) where
   unfolding error_code_of
   code_fits = found (get_of buf 0x0009)
     where
-      chosen : (start len : ℕ) (short : Bool) → CodeFits (cond short Rattle.stun_walk.specs.declared.Code.TheVariants.NoCode (Rattle.stun_walk.specs.declared.Code.TheVariants.Error (get_or buf (start + 2) 0 % 8 * 100 + get_or buf (start + 3) 0)))
+      chosen : (start len : ℕ) (short : Bool) → CodeFits (cond short None (Some (get_or buf (start + 2) 0 % 8 * 100 + get_or buf (start + 3) 0)))
       chosen start len true = tt
       chosen start len false = omega (arith, byte_at b (start + 3))
 
-      found : (f : Found) → CodeFits (code_in buf f)
-      found Nothing = tt
-      found (At start len) = chosen start len (ltb len 4)
+      found : (f : Option Value) → CodeFits (code_in buf f)
+      found None = tt
+      found (Some v) = chosen v.start v.len (ltb v.len 4)
 
   lifetime_fits : LifetimeFits (lifetime_of buf)
   unfolding lifetime_of
   lifetime_fits = found (get_of buf 0x000D)
     where
-      chosen : (start len : ℕ) (short : Bool) → LifetimeFits (cond short NoLifetime (Seconds (field_at buf start * 65536 + field_at buf (start + 2))))
+      chosen : (start len : ℕ) (short : Bool) → LifetimeFits (cond short None (Some (field_at buf start * 65536 + field_at buf (start + 2))))
       chosen start len true = tt
       chosen start len false = omega (arith, byte_at b start, byte_at b (start + 1), byte_at b (start + 2), byte_at b (start + 2 + 1))
 
-      found : (f : Found) → LifetimeFits (lifetime_in buf f)
-      found Nothing = tt
-      found (At start len) = chosen start len (ltb len 4)
+      found : (f : Option Value) → LifetimeFits (lifetime_in buf f)
+      found None = tt
+      found (Some v) = chosen v.start v.len (ltb v.len 4)
 
   -- a lifetime that is granted, or else the one that was asked for
   granted_fits : (asked : ℕ) → asked ≤ 600 → granted_or asked (lifetime_of buf) < 2 ^ 32
   granted_fits asked h = by (lifetime_of buf) lifetime_fits
     where
-      by : (g : Granted) → LifetimeFits g → granted_or asked g < 2 ^ 32
-      by (Seconds n) f = f
-      by NoLifetime f = omega arith
+      by : (g : Option ℕ) → LifetimeFits g → granted_or asked g < 2 ^ 32
+      by (Some n) f = f
+      by None f = omega arith
 
 wait_fits : (reliable : Bool) → cond reliable RELIABLE_TIMEOUT 500 ≤ RELIABLE_TIMEOUT
 wait_fits true = omega arith
@@ -138,7 +135,7 @@ module _ (now : ℕ) (buf : List ℕ) (early : now ≤ LAST_TIME) (b : Bytes buf
         nonced = λ nonce c us l h. record { next_num = h.next_num; txns = h.txns; perms = h.perms; chans = h.chans; refresh_at = h.refresh_at };
         relayed = λ relay c us l h. record { next_num = h.next_num; txns = h.txns; perms = h.perms; chans = h.chans; refresh_at = refresh_fits 600 (omega arith) };
         renewed = λ lifetime c us l q h. with_refresh c _ (refresh_fits lifetime q) h;
-        renewing = λ c us l h. with_refresh c none tt h;
+        renewing = λ c us l h. with_refresh c None tt h;
         closed = λ c us l h. record { next_num = h.next_num; txns = h.txns; perms = h.perms; chans = h.chans; refresh_at = h.refresh_at };
         over = λ c us l h. record { next_num = h.next_num; txns = h.txns; perms = h.perms; chans = h.chans; refresh_at = h.refresh_at };
       }

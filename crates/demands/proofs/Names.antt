@@ -1,9 +1,9 @@
 -- The second map, `by_num`, along the Rust's own methods: it names the peers of the channels, and the methods come to what Source's come to.
 -- First an example: a failed bind, whose number names no peer afterwards.
+use Rattle.std.specs.Prelude.{Option, None, Some}
 use mathlib.Core.Path.{◌≡◌, refl, ap, sym, subst, ◌∙◌}
 use mathlib.Core.Bool.{Bool, true, false, cond, ◌&&◌, ◌||◌, not}
 use mathlib.Core.List.{List, [], ◌∷◌, map}
-use mathlib.Core.Option.{Option, none, some}
 use Prim.Native.Nat.{ℕ, ◌+◌, ◌≤◌}
 use native.Mathlib.Omega.{arith}
 use lib.ListN.{length}
@@ -11,16 +11,10 @@ use lib.Dec.{leb, ltb, eqb}
 use borrow.Author.Tests.{leb-true, not-true, eqb-true, eq-eqb}
 use Rattle.stun_frame.specs.declared.classes.Class.{Class}
 use Rattle.stun_frame.specs.declared.classes.Class.TheVariants.{Request, Indication, Success, Error}
-use Rattle.stun_frame.specs.declared.Channel.{Channel}
-use Rattle.stun_frame.specs.declared.Channel.TheVariants.{Data as ChannelOf, Nothing as NoChannel}
 use Rattle.stun_frame.specs.Source.{class, field_at, decode_channel_data}
 use Rattle.stun_address.specs.declared.Ip.{Ip}
 use Rattle.stun_address.specs.declared.Ip.TheVariants.{V4}
 use Rattle.stun_address.specs.declared.Address.{Address}
-use Rattle.stun_address.specs.declared.Peer.{Peer}
-use Rattle.stun_address.specs.declared.Peer.TheVariants.{At, Nothing as NoPeer}
-use Rattle.stun_walk.specs.declared.Found.{Found}
-use Rattle.stun_walk.specs.declared.Found.TheVariants.{At as Lies, Nothing as Missing}
 use Rattle.stun_walk.specs.Source.{readable, get_of, error_code_of, xor_addr_of}
 use Rattle.turn_state.specs.declared.Kind.{Kind}
 use Rattle.turn_state.specs.declared.Kind.TheVariants.{Allocate, Refresh, Permission, ChannelBind}
@@ -38,6 +32,8 @@ use Rattle.turn.proofs.Kept.{bound_num, bound_peer}
 use Rattle.turn.proofs.Numbers.{bind_chans, new_by_num}
 use Rattle.turn.proofs.Refused.{method_of}
 use Rattle.demands.specs.Rust.{Named, under_num, named, Whole, on_run, rust_on_failure, rust_answered, rust_answer, rust_handle_message, rust_handle_channel, rust_handle, rust_new_channel, rust_send, rust_poll_due, rust_poll, rust_method}
+use Rattle.stun_frame.specs.declared.ChannelData.{ChannelData}
+use Rattle.stun_walk.specs.declared.Value.{Value}
 
 -- a peer's bind of the number 0x4000, that fails
 abbrev peer : Address
@@ -50,7 +46,7 @@ numbered =
       by_num = record { num = 0x4000; peer = peer } ∷ [];
     }
 
-pub forgotten : named 0x4000 (rust_on_failure (ChannelBind peer 0x4000) Timeout numbered).by_num ≡ none
+pub forgotten : named 0x4000 (rust_on_failure (ChannelBind peer 0x4000) Timeout numbered).by_num ≡ None
 forgotten = refl
 
 -- the map itself
@@ -63,16 +59,16 @@ eqb_sound a b e = eqb-true a b e
 eqb_whole : (a : ℕ) → eqb a a ≡ true
 eqb_whole a = eq-eqb a a refl
 
-named_insert : (n num : ℕ) (peer : Address) (m : List Named) → named num (insert (under_num n) (record { num = n; peer = peer }) m) ≡ cond (eqb n num) (some peer) (named num m)
+named_insert : (n num : ℕ) (peer : Address) (m : List Named) → named num (insert (under_num n) (record { num = n; peer = peer }) m) ≡ cond (eqb n num) (Some peer) (named num m)
 named_insert n num peer [] = by (eqb n num)
   where
-    by : (b : Bool) → if_let (cond b (some (record { num = n; peer = peer })) none) (λ (x : Named). some x.peer) none ≡ cond b (some peer) none
+    by : (b : Bool) → if_let (cond b (Some (record { num = n; peer = peer })) None) (λ (x : Named). Some x.peer) None ≡ cond b (Some peer) None
     by true = refl
     by false = refl
 named_insert n num peer (r ∷ m) = by (eqb r.num n) refl (eqb n num) refl (eqb r.num num) refl (named_insert n num peer m)
   where
-    by : (b : Bool) → eqb r.num n ≡ b → (d : Bool) → eqb n num ≡ d → (e : Bool) → eqb r.num num ≡ e → named num (insert (under_num n) (record { num = n; peer = peer }) m) ≡ cond (eqb n num) (some peer) (named num m)
-        → named num (cond b (record { num = n; peer = peer } ∷ m) (r ∷ insert (under_num n) (record { num = n; peer = peer }) m)) ≡ cond (eqb n num) (some peer) (named num (r ∷ m))
+    by : (b : Bool) → eqb r.num n ≡ b → (d : Bool) → eqb n num ≡ d → (e : Bool) → eqb r.num num ≡ e → named num (insert (under_num n) (record { num = n; peer = peer }) m) ≡ cond (eqb n num) (Some peer) (named num m)
+        → named num (cond b (record { num = n; peer = peer } ∷ m) (r ∷ insert (under_num n) (record { num = n; peer = peer }) m)) ≡ cond (eqb n num) (Some peer) (named num (r ∷ m))
     by true q true p e o rest = rw p
     by true q false p true o rest = let z : r.num ≡ n = eqb-true r.num n q in never (sym o ∙ ap (λ (k : ℕ). eqb k num) z ∙ p)
     by true q false p false o rest = rw (p, o)
@@ -81,24 +77,24 @@ named_insert n num peer (r ∷ m) = by (eqb r.num n) refl (eqb n num) refl (eqb 
     by false q false p true o rest = rw (o, p)
     by false q false p false o rest = rw (o, p) (rw p at rest)
 
-named_missing : (n : ℕ) (m : List Named) → contains (λ x. eqb x.num n) m ≡ false → named n m ≡ none
+named_missing : (n : ℕ) (m : List Named) → contains (λ x. eqb x.num n) m ≡ false → named n m ≡ None
 named_missing n [] h = refl
 named_missing n (r ∷ m) h = by (eqb r.num n) refl h (named_missing n m)
   where
-    by : (b : Bool) → eqb r.num n ≡ b → cond b true (contains (λ x. eqb x.num n) m) ≡ false → (contains (λ x. eqb x.num n) m ≡ false → named n m ≡ none) → named n (r ∷ m) ≡ none
+    by : (b : Bool) → eqb r.num n ≡ b → cond b true (contains (λ x. eqb x.num n) m) ≡ false → (contains (λ x. eqb x.num n) m ≡ false → named n m ≡ None) → named n (r ∷ m) ≡ None
     by true q h rest = never h
     by false q h rest = rw q (rest h)
 
-named_remove : (n num : ℕ) {m : List Named} → UniqueNames m → named num (remove (under_num n) m) ≡ cond (eqb n num) none (named num m)
+named_remove : (n num : ℕ) {m : List Named} → UniqueNames m → named num (remove (under_num n) m) ≡ cond (eqb n num) None (named num m)
 named_remove n num none_yet = by (eqb n num)
   where
-    by : (b : Bool) → none ≡ cond {A = Option Address} b none none
+    by : (b : Bool) → None ≡ cond {A = Option Address} b None None
     by true = refl
     by false = refl
 named_remove n num (one_more r {l = m} h u) = by (eqb r.num n) refl (eqb n num) refl (eqb r.num num) refl (named_remove n num u)
   where
-    by : (b : Bool) → eqb r.num n ≡ b → (d : Bool) → eqb n num ≡ d → (e : Bool) → eqb r.num num ≡ e → named num (remove (under_num n) m) ≡ cond (eqb n num) none (named num m)
-        → named num (cond b m (r ∷ remove (under_num n) m)) ≡ cond (eqb n num) none (named num (r ∷ m))
+    by : (b : Bool) → eqb r.num n ≡ b → (d : Bool) → eqb n num ≡ d → (e : Bool) → eqb r.num num ≡ e → named num (remove (under_num n) m) ≡ cond (eqb n num) None (named num m)
+        → named num (cond b m (r ∷ remove (under_num n) m)) ≡ cond (eqb n num) None (named num (r ∷ m))
     by true q true p e o rest =
         let z : r.num ≡ num = eqb-true r.num n q ∙ eqb-true n num p in rw p (named_missing num m (subst (λ (k : ℕ). contains (λ x. eqb x.num k) m ≡ false) z h))
     by true q false p true o rest = let z : r.num ≡ n = eqb-true r.num n q in never (sym o ∙ ap (λ (k : ℕ). eqb k num) z ∙ p)
@@ -139,9 +135,9 @@ tied_cond : (b : Bool) (x y : Whole) (s r : Run) → (b ≡ true → Tied x s) �
 tied_cond true x y s r h k = h refl
 tied_cond false x y s r h k = k refl
 
-tied_if : {X : Type 0} (o : Option X) (f : X → Whole) (g : X → Run) (w : Whole) (s : Run) → ((x : X) → o ≡ some x → Tied (f x) (g x)) → Tied w s → Tied (if_let o f w) (if_let o g s)
-tied_if none f g w s h k = k
-tied_if (some x) f g w s h k = h x refl
+tied_if : {X : Type 0} (o : Option X) (f : X → Whole) (g : X → Run) (w : Whole) (s : Run) → ((x : X) → o ≡ Some x → Tied (f x) (g x)) → Tied w s → Tied (if_let o f w) (if_let o g s)
+tied_if None f g w s h k = k
+tied_if (Some x) f g w s h k = h x refl
 
 -- what leaves the channels, or only writes one where it stands
 request_chans : (now : ℕ) (kind : Kind) (msg : Message) (s : Run) → (request now kind msg s).self.chans ≡ s.self.chans
@@ -155,20 +151,20 @@ perm_self p s = ap (set_perms (insert (for_ip p.ip) p s.self.perms)) (add_self 3
 permission_chans : (now : ℕ) (ip : Ip) (s : Run) → (create_permission now ip s).self.chans ≡ s.self.chans
 unfolding create_permission
 permission_chans now ip s =
-    request_chans now (Permission ip) _ _ ∙ ap (λ (d : Turn). d.chans) (perm_self (record { ip = ip; refresh = none }) s)
+    request_chans now (Permission ip) _ _ ∙ ap (λ (d : Turn). d.chans) (perm_self (record { ip = ip; refresh = None }) s)
 
 permission_next : (now : ℕ) (ip : Ip) (s : Run) → (create_permission now ip s).self.next_num ≡ s.self.next_num
 unfolding create_permission request
 permission_next now ip s =
-    ap (λ (d : Turn). d.next_num) (inserted _ _) ∙ ap (λ (d : Turn). d.next_num) (perm_self (record { ip = ip; refresh = none }) s)
+    ap (λ (d : Turn). d.next_num) (inserted _ _) ∙ ap (λ (d : Turn). d.next_num) (perm_self (record { ip = ip; refresh = None }) s)
 
 update_peers : (peer : Address) (f : Chan → Chan) (s : Run) → ((c : Chan) → (f c).num ≡ c.num) → ((c : Chan) → (f c).peer ≡ c.peer) → SamePeers (update_chan peer f s) s
 update_peers peer f s n p num = by (get (for_peer peer) s.self.chans) refl
   where
     by : (o : Option Chan) → get (for_peer peer) s.self.chans ≡ o
         → peer_of num (if_let o (λ c. on_self (set_chans (insert (for_peer peer) (f c) s.self.chans)) s) s).self.chans ≡ peer_of num s.self.chans
-    by none e = refl
-    by (some c) e = by_num_kept (for_peer peer) c (f c) num s.self.chans e (n c) (p c)
+    by None e = refl
+    by (Some c) e = by_num_kept (for_peer peer) c (f c) num s.self.chans e (n c) (p c)
 
 failure_allocate : (why : Reason) (s : Run) → (on_failure Allocate why s).self.chans ≡ s.self.chans
 unfolding on_failure
@@ -178,12 +174,12 @@ success_peers : (now : ℕ) (kind : Kind) (buf : List ℕ) (s : Run) → SamePee
 unfolding on_success
 success_peers now Allocate buf s num = by (xor_addr_of buf 0x0016)
   where
-    by : (p : Peer) → peer_of num (allocated now buf p s).self.chans ≡ peer_of num s.self.chans
-    by NoPeer = ap (peer_of num) (failure_allocate NoRelayedAddress s)
-    by (At relay) = refl
+    by : (p : Option Address) → peer_of num (allocated now buf p s).self.chans ≡ peer_of num s.self.chans
+    by None = ap (peer_of num) (failure_allocate NoRelayedAddress s)
+    by (Some relay) = refl
 success_peers now (Refresh lifetime) buf s num = ap (peer_of num) (either_way (λ r. r.self.chans) (ltb 0 lifetime) _ s s.self.chans refl refl)
 success_peers now (Permission ip) buf s num =
-    let p : Perm = record { ip = ip; refresh = some (now + 240000) } in
+    let p : Perm = record { ip = ip; refresh = Some (now + 240000) } in
     each_keeps (λ r. peer_of num r.self.chans ≡ peer_of num s.self.chans) (bind_channel now) (λ peer r h. ap (peer_of num) (bind_chans now peer r) ∙ h)
     (map (λ c. c.peer) (filter (waiting ip) (insert_perm p s).self.chans)) (insert_perm p s) (ap (λ (d : Turn). peer_of num d.chans) (perm_self p s))
 success_peers now (ChannelBind peer n) buf s num = update_peers peer (bound_at now n) s (bound_num now n) (bound_peer now n) num
@@ -196,10 +192,10 @@ retry_chans now buf t s =
     (λ x. if_there (λ r. r.self.chans) (get_str buf 0x0014) _ s s.self.chans (λ y. refl) refl)
     (if_there (λ r. r.self.chans) (get_str buf 0x0014) _ s s.self.chans (λ y. refl) refl)
 
-indicated_chans : (p : Peer) (f : Found) (s : Run) → (indicated p f s).self.chans ≡ s.self.chans
-indicated_chans (At peer) (Lies start len) s = refl
-indicated_chans (At peer) Missing s = refl
-indicated_chans NoPeer f s = refl
+indicated_chans : (p : Option Address) (f : Option Value) (s : Run) → (indicated p f s).self.chans ≡ s.self.chans
+indicated_chans (Some peer) (Some v) s = refl
+indicated_chans (Some peer) None s = refl
+indicated_chans None f s = refl
 
 data_chans : (peer : Address) (body : List ℕ) (s : Run) → (send_data peer body s).self.chans ≡ s.self.chans
 data_chans peer body s =
@@ -246,13 +242,13 @@ failure_tied (ChannelBind peer n) why s m h t = by (get (for_peer peer) s.self.c
   where
     by : (o : Option Chan) → get (for_peer peer) s.self.chans ≡ o
         → Tied (if_let o (λ c. with_names (on_self (set_chans (remove (for_peer peer) s.self.chans)) s) (remove (under_num c.num) m)) (with_names s m)) (on_self (set_chans (remove (for_peer peer) s.self.chans)) s)
-    by none e =
+    by None e =
         let gone : remove (for_peer peer) s.self.chans ≡ s.self.chans = by_num_missing (for_peer peer) s.self.chans e in
         (ap (λ (l : List Chan). on_self (set_chans l) s) (sym gone), (λ num. t.0 num ∙ ap (peer_of num) (sym gone), t.1))
-    by (some c) e = (
+    by (Some c) e = (
       refl,
       (
-        λ num. named_remove c.num num t.1 ∙ ap (cond (eqb c.num num) none) (t.0 num) ∙ sym (by_num_remove (for_peer peer) c num h e),
+        λ num. named_remove c.num num t.1 ∙ ap (cond (eqb c.num num) None) (t.0 num) ∙ sym (by_num_remove (for_peer peer) c num h e),
         unique_remove (λ x. x.num) eqb eqb_sound eqb_whole (under_num c.num) t.1,
       ),
     )
@@ -288,17 +284,17 @@ heard_tied num start len s m k =
     (sym (k.0 num)) (by (get (of_number num) s.self.chans))
   where
     by : (o : Option Chan)
-        → Tied (if_let (if_let o (λ c. some c.peer) none) (λ peer. on_run (tell (Data peer start len)) (with_names s m)) (with_names s m)) (if_let o (λ c. tell (Data c.peer start len) s) s)
-    by none = (refl, k)
-    by (some c) = (refl, k)
+        → Tied (if_let (if_let o (λ c. Some c.peer) None) (λ peer. on_run (tell (Data peer start len)) (with_names s m)) (with_names s m)) (if_let o (λ c. tell (Data c.peer start len) s) s)
+    by None = (refl, k)
+    by (Some c) = (refl, k)
 
 handle_tied : (now : ℕ) (buf : List ℕ) (s : Run) (m : List Named) → Climbs s → Tie m s → Tied (rust_handle now buf (with_names s m)) (handle now buf s)
 unfolding handle
 handle_tied now buf s m h k = by (decode_channel_data buf)
   where
-    by : (c : Channel) → Tied (rust_handle_channel now buf c (with_names s m)) (handle_channel now buf c s)
-    by (ChannelOf num start len) = heard_tied num start len s m k
-    by NoChannel = tied_cond (readable buf) (rust_handle_message now buf (with_names s m)) (with_names s m) (handle_message now buf s) s (λ e. message_tied now buf s m h k) (λ e. (refl, k))
+    by : (c : Option ChannelData) → Tied (rust_handle_channel now buf c (with_names s m)) (handle_channel now buf c s)
+    by (Some d) = heard_tied d.number d.start d.len s m k
+    by None = tied_cond (readable buf) (rust_handle_message now buf (with_names s m)) (with_names s m) (handle_message now buf s) s (λ e. message_tied now buf s m h k) (λ e. (refl, k))
 
 new_tied : (now : ℕ) (peer : Address) (s : Run) (m : List Named) → contains (for_peer peer) s.self.chans ≡ false → s.self.next_num ≤ 0x7FFF → Climbs s → Tie m s
     → Tied (rust_new_channel now peer (with_names s m)) (new_channel now peer s)
@@ -312,27 +308,27 @@ new_tied now peer s m e b h k =
     let names : (rust_new_channel now peer (with_names s m)).by_num ≡ insert (under_num num) new m = kept (get (for_ip peer.ip) s₁.self.perms) w₂ in (
       whole,
       subst (λ (l : List Named). Tie l (new_channel now peer s)) (sym names) (
-        λ n. named_insert num n peer m ∙ ap (cond (eqb num n) (some peer)) (k.0 n) ∙ sym (new_by_num 0 s (omega arith, omega arith, h) peer n now e),
+        λ n. named_insert num n peer m ∙ ap (cond (eqb num n) (Some peer)) (k.0 n) ∙ sym (new_by_num 0 s (omega arith, omega arith, h) peer n now e),
         unique_insert (λ x. x.num) eqb eqb_sound eqb_whole new k.1,
       ),
     )
   where
     runs : (o : Option Perm) (w : Whole)
         → (if_let o (λ p. if_let p.refresh (λ at. on_run (bind_channel now peer) w) w) w).run ≡ if_let o (λ p. if_let p.refresh (λ at. bind_channel now peer w.run) w.run) w.run
-    runs none w = refl
-    runs (some p) w = inner p.refresh
+    runs None w = refl
+    runs (Some p) w = inner p.refresh
       where
         inner : (o : Option ℕ) → (if_let o (λ at. on_run (bind_channel now peer) w) w).run ≡ if_let o (λ at. bind_channel now peer w.run) w.run
-        inner none = refl
-        inner (some at) = refl
+        inner None = refl
+        inner (Some at) = refl
 
     kept : (o : Option Perm) (w : Whole) → (if_let o (λ p. if_let p.refresh (λ at. on_run (bind_channel now peer) w) w) w).by_num ≡ w.by_num
-    kept none w = refl
-    kept (some p) w = inner p.refresh
+    kept None w = refl
+    kept (Some p) w = inner p.refresh
       where
         inner : (o : Option ℕ) → (if_let o (λ at. on_run (bind_channel now peer) w) w).by_num ≡ w.by_num
-        inner none = refl
-        inner (some at) = refl
+        inner None = refl
+        inner (Some at) = refl
 
 send_tied : (now : ℕ) (peer : Address) (body : List ℕ) (s : Run) (m : List Named) → Climbs s → Tie m s → Tied (rust_send now peer body (with_names s m)) (send now peer body s)
 unfolding send

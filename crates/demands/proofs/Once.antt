@@ -4,13 +4,11 @@ use mathlib.Core.Bool.{Bool}
 use mathlib.Core.List.{List, [], ◌∷◌}
 use Prim.Native.Nat.{ℕ}
 use Rattle.turn_state.specs.declared.Client.{Client}
-use Rattle.turn_state.specs.declared.Answer.{Answer}
 use Rattle.turn_state.specs.Source.{next_deadline}
 use Rattle.turn_state.specs.Sequence.{Call, outcome}
-use Rattle.turn_state.specs.View.{view, Tidy, Allows}
+use Rattle.turn_state.specs.View.{view, Tidy, Reply, Allows}
 use Rattle.turn_state.proofs.Same.{same_client, same_answer}
-use Rattle.turn_deadline.specs.Times.{deadline_of}
-use Rattle.turn_open.specs.declared.Opened.{Opened}
+use Rattle.turn_open.specs.Opening.{Opened}
 use Rattle.demands.specs.History.{Step, Allowed, Along, end, next, History, Pairs, none, pair, SameGiven, OneHistory, AllTidy}
 
 tidy_along : {c : Client} {steps : List Step} → Tidy c → Along Allowed c steps → Along (λ b s. Tidy s.answer.client) c steps
@@ -36,7 +34,7 @@ one_step c s t tidy a b e =
     let same : (s.answer ≡ t.answer) × (s.left ≡ t.left) =
     same_answer c (outcome (view c) s.call) s.lent s.answer t.answer s.left t.left a.contract given tidy a.sized b.sized in
     let deadline : s.deadline ≡ t.deadline =
-    a.deadline ∙ ap (λ (r : Answer). deadline_of (next_deadline (view r.client))) same.0 ∙ sym b.deadline in
+    a.deadline ∙ ap (λ (r : Reply). next_deadline (view r.client)) same.0 ∙ sym b.deadline in
     λ i. record { call = e.0 i; lent = e.1 i; answer = same.0 i; left = same.1 i; deadline = deadline i }
 
 one_steps : (c : Client) (steps others : List Step) → Tidy c → Along Allowed c steps → Along Allowed c others → Pairs SameGiven steps others → steps ≡ others

@@ -1,10 +1,10 @@
 -- What is alike is read alike: a message whose MESSAGE-INTEGRITY and FINGERPRINT values are blanked reads like itself, since the walk passes
 -- over values, and no two of its attributes share a byte. First two examples: messages that differ in a FINGERPRINT of 4 bytes are alike,
 -- those that differ in one that declares 5 are not.
+use Rattle.std.specs.Prelude.{Some, Option, None}
 use mathlib.Core.Path.{◌≡◌, refl, ap, ap₂, sym, subst, ◌∙◌}
 use mathlib.Core.Bool.{Bool, true, false, cond, ◌&&◌, ◌||◌}
 use mathlib.Core.List.{List, [], ◌∷◌}
-use mathlib.Core.Option.{some}
 use Prim.Native.Nat.{ℕ, zero, suc, ◌+◌, ◌*◌, ◌-◌, ◌≤◌, ◌<◌, min}
 use native.Mathlib.Omega.{arith}
 use lib.ListN.{length, get_or, take, drop, length-take, length-drop}
@@ -12,13 +12,23 @@ use lib.Seq.{ext_get_or, get_or-take, get_or-drop}
 use lib.Dec.{ltb, leb, eqb}
 use borrow.Author.Tests.{leb-true, le-leb, lt-leb, le-ltb, lt-ltb, eqb-true, ne_eqb}
 use Rattle.stun_frame.specs.Source.{is_stun, is_channel_data, field_at, from_be, decode_channel_data}
-use Rattle.stun_walk.specs.declared.Found.{Found}
-use Rattle.stun_walk.specs.declared.Found.TheVariants.{At, Nothing}
 use Rattle.stun_walk.specs.Source.{Attribute, padded, attributes_from, attributes, inside, readable, first, get_of, code_in, error_code_of, lifetime_in, lifetime_of, address_in, xor_addr_of}
 use Rattle.stun_address.specs.Source.{decode_xor_addr}
 use Rattle.turn_state.specs.Source.{tid_of, text_found, get_str}
 use Rattle.turn.proofs.Steps.{never}
 use Rattle.demands.specs.Alike.{secret, hidden, blank_from, blanked, Alike}
+use Rattle.stun_walk.specs.declared.Value.{Value}
+
+abbrev found_at : ℕ → ℕ → Option Value
+found_at start len = Some (record { start = start; len = len })
+
+abbrev start_of : Option Value → ℕ
+start_of None = 0
+start_of (Some v) = v.start
+
+abbrev len_of : Option Value → ℕ
+len_of None = 0
+len_of (Some v) = v.len
 
 -- a Binding success with one attribute of a FINGERPRINT's type, whose value begins with `b`
 abbrev with_four : ℕ → List ℕ
@@ -144,37 +154,37 @@ module _ (a : List ℕ) where
   blank_walk = kept_walk blank clear (length-blank (attributes a) 0 a)
 
   -- what `first` finds from p on begins at p + 4 or later, and hides nothing of it unless its type is one of the two
-  first_from : (t n p start len : ℕ) → first t (attributes_from n a p) ≡ At start len → p + 4 ≤ start
+  first_from : (t n p start len : ℕ) → first t (attributes_from n a p) ≡ found_at start len → p + 4 ≤ start
   unfolding attributes_from
   first_from t zero p start len e = let z : ◌≡◌ {A = ℕ} 0 1 = cc in let f : ⊥ = omega arith in absurd f
   first_from t (suc n) p start len e = by (leb (p + 4) (20 + field_at a 2)) (eqb (field_at a p) t) refl e (first_from t n (after p) start len)
     where
-      by : (b c : Bool) → eqb (field_at a p) t ≡ c → first t (cond b (here p ∷ attributes_from n a (after p)) []) ≡ At start len
-          → (first t (attributes_from n a (after p)) ≡ At start len → after p + 4 ≤ start) → p + 4 ≤ start
+      by : (b c : Bool) → eqb (field_at a p) t ≡ c → first t (cond b (here p ∷ attributes_from n a (after p)) []) ≡ found_at start len
+          → (first t (attributes_from n a (after p)) ≡ found_at start len → after p + 4 ≤ start) → p + 4 ≤ start
       by false c q e rest = let z : ◌≡◌ {A = ℕ} 0 1 = cc in let f : ⊥ = omega arith in absurd f
-      by true true q e rest = let h : At (p + 4) (field_at a (p + 2)) ≡ At start len = (rw q at e) in let z : p + 4 ≡ start = cc in omega arith
-      by true false q e rest = let h : first t (attributes_from n a (after p)) ≡ At start len = (rw q at e) in let z = rest h in omega arith
+      by true true q e rest = let h : found_at (p + 4) (field_at a (p + 2)) ≡ found_at start len = (rw q at e) in let z : p + 4 ≡ start = ap start_of h in omega arith
+      by true false q e rest = let h : first t (attributes_from n a (after p)) ≡ found_at start len = (rw q at e) in let z = rest h in omega arith
 
-  first_clear : (t : ℕ) → eqb t 0x0008 ≡ false → eqb t 0x8028 ≡ false → (n p start len i : ℕ) → first t (attributes_from n a p) ≡ At start len → start ≤ i → i < start + len
+  first_clear : (t : ℕ) → eqb t 0x0008 ≡ false → eqb t 0x8028 ≡ false → (n p start len i : ℕ) → first t (attributes_from n a p) ≡ found_at start len → start ≤ i → i < start + len
       → hidden (attributes_from n a p) i ≡ false
   unfolding attributes_from
   first_clear t u v zero p start len i e l h = refl
   first_clear t u v (suc n) p start len i e l h =
       by (leb (p + 4) (20 + field_at a 2)) (eqb (field_at a p) t) refl e (first_from t n (after p) start len) (λ k. first_clear t u v n (after p) start len i k l h)
     where
-      by : (b c : Bool) → eqb (field_at a p) t ≡ c → first t (cond b (here p ∷ attributes_from n a (after p)) []) ≡ At start len
-          → (first t (attributes_from n a (after p)) ≡ At start len → after p + 4 ≤ start) → (first t (attributes_from n a (after p)) ≡ At start len → hidden (attributes_from n a (after p)) i ≡ false)
+      by : (b c : Bool) → eqb (field_at a p) t ≡ c → first t (cond b (here p ∷ attributes_from n a (after p)) []) ≡ found_at start len
+          → (first t (attributes_from n a (after p)) ≡ found_at start len → after p + 4 ≤ start) → (first t (attributes_from n a (after p)) ≡ found_at start len → hidden (attributes_from n a (after p)) i ≡ false)
           → hidden (cond b (here p ∷ attributes_from n a (after p)) []) i ≡ false
       by false c q e from rest = refl
       by true true q e from rest =
-          let k : At (p + 4) (field_at a (p + 2)) ≡ At start len = (rw q at e) in
-          let z : p + 4 ≡ start = cc in
-          let y : field_at a (p + 2) ≡ len = cc in
+          let k : found_at (p + 4) (field_at a (p + 2)) ≡ found_at start len = (rw q at e) in
+          let z : p + 4 ≡ start = ap start_of k in
+          let y : field_at a (p + 2) ≡ len = ap len_of k in
           let typ : field_at a p ≡ t = eqb-true (field_at a p) t q in
           let shut : secret (here p) ≡ false = rw (typ, u, v) in
           open_one (secret (here p)) (leb (p + 4) i && ltb i (p + 4 + field_at a (p + 2))) _ shut (walk_low n (after p) i (omega arith))
       by true false q e from rest =
-          let k : first t (attributes_from n a (after p)) ≡ At start len = (rw q at e) in
+          let k : first t (attributes_from n a (after p)) ≡ found_at start len = (rw q at e) in
           let z = from k in
           skip (secret (here p)) (leb (p + 4) i) (ltb i (p + 4 + field_at a (p + 2))) (hidden (attributes_from n a (after p)) i) (le-ltb i (p + 4 + field_at a (p + 2)) (omega arith)) ∙ rest k
 
@@ -197,7 +207,7 @@ module _ (a : List ℕ) where
 
   blank_get : (t : ℕ) → get_of blank t ≡ get_of a t
   unfolding get_of
-  blank_get t = λ i. cond (blank_readable i) (first t (blank_walk i)) Nothing
+  blank_get t = λ i. cond (blank_readable i) (first t (blank_walk i)) None
 
   blank_type : field_at blank 0 ≡ field_at a 0
   blank_type = field 0 (low 0 (omega arith)) (low (0 + 1) (omega arith))
@@ -212,62 +222,62 @@ module _ (a : List ℕ) where
 
   -- values of other types
   module _ (t : ℕ) (u : eqb t 0x0008 ≡ false) (v : eqb t 0x8028 ≡ false) where
-    value_byte : (start len : ℕ) → get_of a t ≡ At start len → (i : ℕ) → start ≤ i → i < start + len → get_or blank i 0 ≡ get_or a i 0
+    value_byte : (start len : ℕ) → get_of a t ≡ found_at start len → (i : ℕ) → start ≤ i → i < start + len → get_or blank i 0 ≡ get_or a i 0
     unfolding get_of
     value_byte start len e i l h = by (readable a) e
       where
-        by : (b : Bool) → cond b (first t (attributes a)) Nothing ≡ At start len → get_or blank i 0 ≡ get_or a i 0
+        by : (b : Bool) → cond b (first t (attributes a)) None ≡ found_at start len → get_or blank i 0 ≡ get_or a i 0
         by true e = clear i (first_clear t u v (length a) 20 start len i e l h)
         by false e = let z : ◌≡◌ {A = ℕ} 0 1 = cc in let f : ⊥ = omega arith in absurd f
 
-    value_part : (start len : ℕ) → get_of a t ≡ At start len → take len (drop start blank) ≡ take len (drop start a)
+    value_part : (start len : ℕ) → get_of a t ≡ found_at start len → take len (drop start blank) ≡ take len (drop start a)
     value_part start len e = same_part blank a start len same_length (value_byte start len e)
 
     blank_addr : xor_addr_of blank t ≡ xor_addr_of a t
     unfolding xor_addr_of
     blank_addr = ap (address_in blank) (blank_get t) ∙ by (get_of a t) refl
       where
-        by : (f : Found) → get_of a t ≡ f → address_in blank f ≡ address_in a f
-        by Nothing e = refl
-        by (At start len) e = ap₂ decode_xor_addr (value_part start len e) blank_tid
+        by : (f : Option Value) → get_of a t ≡ f → address_in blank f ≡ address_in a f
+        by None e = refl
+        by (Some f) e = ap₂ decode_xor_addr (value_part f.start f.len e) blank_tid
 
     blank_str : get_str blank t ≡ get_str a t
     blank_str = ap (text_found blank) (blank_get t) ∙ by (get_of a t) refl
       where
-        by : (f : Found) → get_of a t ≡ f → text_found blank f ≡ text_found a f
-        by Nothing e = refl
-        by (At start len) e = ap (λ (x : List ℕ). some (Rattle.stun_text.specs.Utf8.replaced x)) (value_part start len e)
+        by : (f : Option Value) → get_of a t ≡ f → text_found blank f ≡ text_found a f
+        by None e = refl
+        by (Some f) e = ap (λ (x : List ℕ). Some (Rattle.stun_text.specs.Utf8.replaced x)) (value_part f.start f.len e)
 
   blank_code : error_code_of blank ≡ error_code_of a
   unfolding error_code_of
   blank_code = ap (code_in blank) (blank_get 0x0009) ∙ by (get_of a 0x0009) refl
     where
-      by : (f : Found) → get_of a 0x0009 ≡ f → code_in blank f ≡ code_in a f
-      by Nothing e = refl
-      by (At start len) e = short (ltb len 4) refl
+      by : (f : Option Value) → get_of a 0x0009 ≡ f → code_in blank f ≡ code_in a f
+      by None e = refl
+      by (Some f) e = short (ltb f.len 4) refl
         where
-          short : (b : Bool) → ltb len 4 ≡ b → code_in blank (At start len) ≡ code_in a (At start len)
+          short : (b : Bool) → ltb f.len 4 ≡ b → code_in blank (found_at f.start f.len) ≡ code_in a (found_at f.start f.len)
           short true q = rw q
           short false q =
-              let l : 4 ≤ len = borrow.Author.Tests.ltb-false len 4 q in
-              rw (q, value_byte 0x0009 refl refl start len e (start + 2) (omega arith) (omega arith), value_byte 0x0009 refl refl start len e (start + 3) (omega arith) (omega arith))
+              let l : 4 ≤ f.len = borrow.Author.Tests.ltb-false f.len 4 q in
+              rw (q, value_byte 0x0009 refl refl f.start f.len e (f.start + 2) (omega arith) (omega arith), value_byte 0x0009 refl refl f.start f.len e (f.start + 3) (omega arith) (omega arith))
 
   blank_lifetime : lifetime_of blank ≡ lifetime_of a
   unfolding lifetime_of
   blank_lifetime = ap (lifetime_in blank) (blank_get 0x000D) ∙ by (get_of a 0x000D) refl
     where
-      by : (f : Found) → get_of a 0x000D ≡ f → lifetime_in blank f ≡ lifetime_in a f
-      by Nothing e = refl
-      by (At start len) e = short (ltb len 4) refl
+      by : (f : Option Value) → get_of a 0x000D ≡ f → lifetime_in blank f ≡ lifetime_in a f
+      by None e = refl
+      by (Some f) e = short (ltb f.len 4) refl
         where
-          short : (b : Bool) → ltb len 4 ≡ b → lifetime_in blank (At start len) ≡ lifetime_in a (At start len)
+          short : (b : Bool) → ltb f.len 4 ≡ b → lifetime_in blank (found_at f.start f.len) ≡ lifetime_in a (found_at f.start f.len)
           short true q = rw q
           short false q =
-              let l : 4 ≤ len = borrow.Author.Tests.ltb-false len 4 q in
-              let at : (i : ℕ) → start ≤ i → i < start + len → get_or blank i 0 ≡ get_or a i 0 = value_byte 0x000D refl refl start len e in
-              let f : field_at blank start ≡ field_at a start = field start (at start (omega arith) (omega arith)) (at (start + 1) (omega arith) (omega arith)) in
-              let g : field_at blank (start + 2) ≡ field_at a (start + 2) = field (start + 2) (at (start + 2) (omega arith) (omega arith)) (at (start + 2 + 1) (omega arith) (omega arith)) in
-              λ i. cond (ltb len 4) Rattle.stun_walk.specs.declared.Granted.TheVariants.NoLifetime (Rattle.stun_walk.specs.declared.Granted.TheVariants.Seconds (f i * 65536 + g i))
+              let l : 4 ≤ f.len = borrow.Author.Tests.ltb-false f.len 4 q in
+              let at : (i : ℕ) → f.start ≤ i → i < f.start + f.len → get_or blank i 0 ≡ get_or a i 0 = value_byte 0x000D refl refl f.start f.len e in
+              let g : field_at blank f.start ≡ field_at a f.start = field f.start (at f.start (omega arith) (omega arith)) (at (f.start + 1) (omega arith) (omega arith)) in
+              let h : field_at blank (f.start + 2) ≡ field_at a (f.start + 2) = field (f.start + 2) (at (f.start + 2) (omega arith) (omega arith)) (at (f.start + 2 + 1) (omega arith) (omega arith)) in
+              λ i. cond (ltb f.len 4) None (Some (g i * 65536 + h i))
 
 -- so whatever does not tell a message from the blanked one does not tell two that are alike
 pub alike_reads : {A : Type 0} (f : List ℕ → A) → ((a : List ℕ) → f (blank a) ≡ f a) → (a b : List ℕ) → Alike a b → f a ≡ f b

@@ -4,7 +4,7 @@ use mathlib.Core.Bool.{Bool, true, false, cond}
 use mathlib.Core.List.{List, [], ◌∷◌, ◌++◌, map}
 use Prim.Native.Nat.{ℕ, ◌≤◌}
 use native.Mathlib.Omega.{arith}
-use lib.ListN.{length, drop, replicate}
+use lib.ListN.{length, drop}
 use lib.Dec.{eqb}
 use borrow.Author.Tests.{eqb-true, ltb-false}
 use Rattle.turn_state.specs.declared.Client.{Client}
@@ -13,13 +13,12 @@ use Rattle.turn_state.specs.Source.{peer_of, new, next_deadline}
 use Rattle.turn_state.specs.Number.{Outcome, number, framed, open_number, opened}
 use Rattle.turn_state.specs.Sequence.{Call, Start, Handle, Send, Poll, TransportFailed, Close, outcome}
 use Rattle.turn_state.specs.View.{view, told}
-use Rattle.turn_deadline.specs.Times.{deadline_of}
 use Rattle.turn.proofs.Keys.{none_yet}
 use Rattle.turn.proofs.Numbers.{Numbered, call_kept, opened_numbered}
 use Rattle.turn.proofs.Refused.{given_of, run_of, refusal, done, no_condition, here, there, opening_done}
 use Rattle.demands.specs.History.{Step, Allowed, Along, end, next, Pairs, none, pair}
 use Rattle.demands.specs.Rust.{named, Rust, rust_method, ids_of, rust_call, rust_new, rust}
-use Rattle.demands.specs.Demand2.{Shows, accepted, Demand2}
+use Rattle.demands.specs.Demand2.{times, Shows, accepted, Demand2}
 use Rattle.demands.proofs.First.{step_numbered}
 use Rattle.demands.proofs.Names.{UniqueNames, Tied, with_names, method_tied}
 use Rattle.demands.proofs.Events.{OneEvent, one_event}
@@ -94,8 +93,9 @@ module _ (c : Client) (s : Step) (r : Rust) (f : Follows c r) (a : Allowed c s) 
         len = m.len ∙ ap (λ (p : List (List ℕ)). length (framed p)) packets;
         packets = m.packets ∙ ap length packets;
         event = event;
-        events = whole ∙ ap (λ (n : ℕ). replicate n (told (rust_call r s.call).events)) (sym count) ∙ ap (replicate s.answer.events) (sym event);
-        deadline = a.deadline ∙ ap (λ (t : Turn). deadline_of (next_deadline t)) followed.turn;
+        events = whole ∙ ap (λ (n : ℕ). times n (told (rust_call r s.call).events)) (sym count) ∙ ap (times s.answer.events) (sym event);
+        count = count;
+        deadline = a.deadline ∙ ap (λ (t : Turn). next_deadline t) followed.turn;
         client = followed.turn;
         by_num = λ num. followed.names num ∙ ap (λ (t : Turn). peer_of num t.chans) (sym followed.turn);
         drawn = rw (ap (λ (x : Run). length x.report.used) same_run, same_ids s.call) enough;

@@ -1,8 +1,8 @@
 -- Demand 3: two histories, step by step.
+use Rattle.std.specs.Prelude.{Option, None}
 use mathlib.Core.Path.{◌≡◌, refl, ap, ap₂, sym, ◌∙◌}
 use mathlib.Core.Bool.{Bool, true, false}
 use mathlib.Core.List.{List, [], ◌∷◌, ◌++◌, append_assoc}
-use mathlib.Core.Option.{Option, none}
 use Prim.Native.Nat.{ℕ, suc, ◌+◌, ◌*◌, ◌/◌, ◌%◌}
 use native.Mathlib.Omega.{arith}
 use lib.ListN.{length, take, drop, replicate, length-replicate}
@@ -15,7 +15,6 @@ use Rattle.turn_state.specs.Number.{framed}
 use Rattle.turn_state.specs.Sequence.{outcome}
 use Rattle.turn_state.specs.View.{view, told, held, text_in, no_text, absent, no_rows, Tidy, Sized}
 use Rattle.turn_state.proofs.Same.{same_client}
-use Rattle.turn_deadline.specs.Times.{deadline_of}
 use Rattle.turn.proofs.Refused.{opening_done}
 use Rattle.demands.specs.History.{Step, Allowed, Along, end, next, Pairs, none as no_pairs, pair}
 use Rattle.demands.specs.Alike.{Alike}
@@ -43,7 +42,7 @@ deadline_even : {c d : Turn} → Even c d → next_deadline c ≡ next_deadline 
 deadline_even (even pw k h g) = refl
 
 abbrev bare : Turn → Turn
-bare c = record { username = c.username; password = []; realm = c.realm; nonce = c.nonce; key = none; relay = c.relay; done = c.done; refresh_at = c.refresh_at; txns = c.txns; perms = c.perms; chans = c.chans; next_num = c.next_num; closing = c.closing; reliable = c.reliable }
+bare c = record { username = c.username; password = []; realm = c.realm; nonce = c.nonce; key = None; relay = c.relay; done = c.done; refresh_at = c.refresh_at; txns = c.txns; perms = c.perms; chans = c.chans; next_num = c.next_num; closing = c.closing; reliable = c.reliable }
 
 bare_even : {c d : Turn} → Even c d → bare c ≡ bare d
 bare_even (even pw k h g) = refl
@@ -137,7 +136,7 @@ module _ (c d : Client) (s t : Step) (e : Even (view c) (view d)) (tc : Tidy c) 
         refusal = ma.refusal ∙ shared.refusal ∙ sym mb.refusal;
         events = ma.events ∙ ap length shared.events ∙ sym mb.events;
         event = ma.event ∙ ap told shared.events ∙ sym mb.event;
-        deadline = a.deadline ∙ ap deadline_of (deadline_even later) ∙ sym b.deadline;
+        deadline = a.deadline ∙ deadline_even later ∙ sym b.deadline;
         count = ma.packets ∙ pairs_length shared.packets ∙ sym mb.packets;
         packets = rw (read_back s P ma.packets ma.output, read_back t Q mb.packets mb.output) shared.packets;
         len = len;
@@ -157,5 +156,5 @@ pub demand3 : Demand3
 demand3 username password other reliable o p steps others h k zo zp g =
     let first : view o.client ≡ new username password reliable = h.opening.client ∙ opening_done username password reliable (sym h.opening.refusal ∙ zo) in
     let second : view p.client ≡ new username other reliable = k.opening.client ∙ opening_done username other reliable (sym k.opening.refusal ∙ zp) in
-    let e : Even (new username password reliable) (new username other reliable) = even other none no_key no_rows in
+    let e : Even (new username password reliable) (new username other reliable) = even other None no_key no_rows in
     beside o.client p.client steps others (rw (first, second) e) h.opening.tidy k.opening.tidy h.made k.made g

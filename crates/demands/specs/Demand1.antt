@@ -3,15 +3,13 @@
 --
 -- That a call ends, whatever it is given, is no statement here: the prover admits no function that may not return, and none of these has a
 -- `requires`. Of what is lent only the output can be written: ids and datagram are shared references.
-use Rattle.std.specs.Prelude.{◌≡◌, Bool, false, List, [], ℕ, ◌≤◌}
+use Rattle.std.specs.Prelude.{◌≡◌, Bool, false, List, [], ℕ, ◌≤◌, None}
 use Rattle.turn_state.specs.declared.Client.{Client}
-use Rattle.turn_state.specs.declared.Event.TheVariants.{Nothing}
 use Rattle.turn_state.specs.Source.{new, next_deadline}
 use Rattle.turn_state.specs.Number.{open_number}
 use Rattle.turn_state.specs.Sequence.{outcome}
 use Rattle.turn_state.specs.View.{view}
-use Rattle.turn_deadline.specs.Times.{deadline_of}
-use Rattle.turn_open.specs.declared.Opened.{Opened}
+use Rattle.turn_open.specs.Opening.{Opened}
 use Rattle.demands.specs.History.{Step, Along, History}
 
 -- nothing is changed, told or sent
@@ -19,10 +17,10 @@ pub record Unchanged (before : Client) (s : Step) : Type 0 where
   pub client : s.answer.client ≡ before
   pub output : s.left ≡ s.lent
   pub events : s.answer.events ≡ 0
-  pub event : s.answer.event ≡ Nothing
+  pub event : s.answer.event ≡ None
   pub packets : s.answer.packets ≡ 0
   pub len : s.answer.len ≡ 0
-  pub deadline : s.deadline ≡ deadline_of (next_deadline (view before))
+  pub deadline : s.deadline ≡ next_deadline (view before)
 
 -- one number, the one that the scope's table has for the call, from 0 to 8; refused, nothing is changed
 pub record Numbered (before : Client) (s : Step) : Type 0 where

@@ -1,16 +1,14 @@
--- A history: an opening, then calls, each made with the client that the one before handed back, and each answered as the contract of
--- that function allows. It speaks of the code's own values: its clients, its answers and the bytes that were lent to it.
-use Rattle.std.specs.Prelude.{◌≡◌, Bool, List, [], ◌∷◌, ℕ, ◌<◌, ◌^◌, length}
+-- A history: an opening, then calls, each made with the client that the caller had after the one before, and each answered as the
+-- contract of that function allows. It speaks of the code's own values: its clients, its answers (`reply_of` of what a call returns: of a
+-- refusal, its number and the client that was given) and the bytes that were lent to it.
+use Rattle.std.specs.Prelude.{◌≡◌, Bool, List, [], ◌∷◌, ℕ, ◌<◌, ◌^◌, length, Option}
 use Rattle.stun_address.specs.declared.Ip.{Ip}
 use Rattle.stun_address.specs.declared.Ip.TheVariants.{V4, V6}
 use Rattle.turn_state.specs.declared.Client.{Client}
-use Rattle.turn_state.specs.declared.Answer.{Answer}
 use Rattle.turn_state.specs.Source.{next_deadline}
 use Rattle.turn_state.specs.Sequence.{Call, Start, Handle, Send, Poll, TransportFailed, Close}
-use Rattle.turn_state.specs.View.{view, Each, Tidy, Allows, Sized}
-use Rattle.turn_deadline.specs.declared.Deadline.{Deadline}
-use Rattle.turn_deadline.specs.Times.{deadline_of}
-use Rattle.turn_open.specs.declared.Opened.{Opened}
+use Rattle.turn_state.specs.View.{view, Each, Tidy, Reply, Allows, Sized}
+use Rattle.turn_open.specs.Opening.{Opened}
 use Rattle.turn_open.specs.Opening.{Opening}
 
 -- the length of the output that a call is lent; the loss of a transport is lent none
@@ -42,9 +40,9 @@ Typed (Close ids room) = Bytes ids × (room < 2 ^ 64)
 pub record Step : Type 0 where
   pub call : Call
   pub lent : List ℕ
-  pub answer : Answer
+  pub answer : Reply
   pub left : List ℕ
-  pub deadline : Deadline
+  pub deadline : Option ℕ
 
 -- a step that the code can make with the client `before`
 pub record Allowed (before : Client) (s : Step) : Type 0 where
@@ -53,7 +51,7 @@ pub record Allowed (before : Client) (s : Step) : Type 0 where
   pub room : length s.lent ≡ room_of s.call
   pub contract : Allows before s.call s.lent s.answer s.left
   pub sized : Sized s.answer.client
-  pub deadline : s.deadline ≡ deadline_of (next_deadline (view s.answer.client))
+  pub deadline : s.deadline ≡ next_deadline (view s.answer.client)
 
 -- of every step, with the client that it is made with
 pub data Along (P : Client → Step → Type 0) : Client → List Step → Type 0 where

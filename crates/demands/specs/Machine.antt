@@ -1,12 +1,7 @@
 -- The naturals of the definition are the source's machine numbers: in every history what a client holds, and what is read of a datagram,
 -- stays within the types of turn.rs and stun.rs (u16, u32, and an Instant as milliseconds in 64 bits). So no sum of the source leaves
 -- its type in an accepted call: each is held in the client that the call hands back, or below what is.
-use Rattle.std.specs.Prelude.{Bool, List, ℕ, ◌+◌, ◌-◌, ◌*◌, ◌^◌, ◌≤◌, ◌<◌}
-use Rattle.std.proofs.Math.Option.{Option, none, some}
-use Rattle.stun_walk.specs.declared.Code.{Code}
-use Rattle.stun_walk.specs.declared.Code.TheVariants.{Error, NoCode}
-use Rattle.stun_walk.specs.declared.Granted.{Granted}
-use Rattle.stun_walk.specs.declared.Granted.TheVariants.{Seconds, NoLifetime}
+use Rattle.std.specs.Prelude.{Bool, List, ℕ, ◌+◌, ◌-◌, ◌*◌, ◌^◌, ◌≤◌, ◌<◌, Option, None, Some}
 use Rattle.stun_walk.specs.Source.{error_code_of, lifetime_of}
 use Rattle.turn_state.specs.declared.Kind.{Kind}
 use Rattle.turn_state.specs.declared.Kind.TheVariants.{Allocate, Refresh, Permission, ChannelBind}
@@ -14,7 +9,7 @@ use Rattle.turn_state.specs.State.{Txn, Chan, Turn}
 use Rattle.turn_state.specs.Source.{RELIABLE_TIMEOUT, PERMISSION_REFRESH, CHANNEL_REFRESH, MAX_TRIES}
 use Rattle.turn_state.specs.Sequence.{Call, Start, Handle, Send, Poll, TransportFailed, Close}
 use Rattle.turn_state.specs.View.{view, Each}
-use Rattle.turn_open.specs.declared.Opened.{Opened}
+use Rattle.turn_open.specs.Opening.{Opened}
 use Rattle.demands.specs.History.{Step, Along, History}
 
 -- the last time that a call may have: 2^53 - 1 milliseconds
@@ -26,8 +21,8 @@ abbrev pub Within : ℕ → ℕ → Type 0
 Within wait at = at ≤ LAST_TIME + wait
 
 abbrev pub WithinIf : ℕ → Option ℕ → Type 0
-WithinIf wait none = Unit {0}
-WithinIf wait (some at) = Within wait at
+WithinIf wait None = Unit {0}
+WithinIf wait (Some at) = Within wait at
 
 -- what a request asks for: a Refresh 600 seconds (a u32), a bind a number (a u16)
 abbrev pub KindFits : Kind → Type 0
@@ -60,13 +55,13 @@ pub record Fits (c : Turn) : Type 0 where
   pub refresh_at : WithinIf LONGEST c.refresh_at
 
 -- error_code(): u16; lifetime(): u32
-abbrev pub CodeFits : Code → Type 0
-CodeFits (Error n) = n ≤ 955
-CodeFits NoCode = Unit {0}
+abbrev pub CodeFits : Option ℕ → Type 0
+CodeFits (Some n) = n ≤ 955
+CodeFits None = Unit {0}
 
-abbrev pub LifetimeFits : Granted → Type 0
-LifetimeFits (Seconds n) = n < 2 ^ 32
-LifetimeFits NoLifetime = Unit {0}
+abbrev pub LifetimeFits : Option ℕ → Type 0
+LifetimeFits (Some n) = n < 2 ^ 32
+LifetimeFits None = Unit {0}
 
 abbrev pub ReadFits : Call → Type 0
 ReadFits (Start now ids room) = Unit {0}

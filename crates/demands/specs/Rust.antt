@@ -1,11 +1,8 @@
 -- turn.rs with its second map, `by_num`, from a channel's number to its peer. Source has every method; here stand again, under the same
 -- names, those that put into it, take out of it or look into it, and those that call them. No number, room or limit is read.
-use Rattle.std.specs.Prelude.{Bool, false, cond, ◌&&◌, ◌||◌, not, List, [], ◌∷◌, ℕ, ◌+◌, length, leb, eqb}
-use Rattle.std.proofs.Math.Option.{Option, none, some}
+use Rattle.std.specs.Prelude.{Bool, false, cond, ◌&&◌, ◌||◌, not, List, [], ◌∷◌, ℕ, ◌+◌, length, leb, eqb, Option, None, Some}
 use Rattle.stun_frame.specs.declared.classes.Class.{Class}
 use Rattle.stun_frame.specs.declared.classes.Class.TheVariants.{Request, Indication, Success, Error}
-use Rattle.stun_frame.specs.declared.Channel.{Channel}
-use Rattle.stun_frame.specs.declared.Channel.TheVariants.{Data as ChannelOf, Nothing as NoChannel}
 use Rattle.stun_frame.specs.Source.{class, field_at, decode_channel_data}
 use Rattle.stun_address.specs.declared.Address.{Address}
 use Rattle.stun_walk.specs.Source.{readable, get_of, error_code_of, xor_addr_of}
@@ -19,6 +16,7 @@ use Rattle.turn_state.specs.Maps.{get, contains, insert, remove, each, if_let, i
 use Rattle.turn_state.specs.State.{Txn, Chan, Turn, Run, begin, set_txns, set_chans, set_next_num, on_self, tell}
 use Rattle.turn_state.specs.Source.{under_id, for_ip, for_peer, insert_txn, insert_chan, new, encode, push_message, start, bind_channel, create_permission, on_failure, on_success, retry, code_or_0, is_answer, passed, tid_of, indicated, send_data, repeated, MAX_TRIES, poll_refresh, poll_perms, poll_chans, due_of, next_deadline, transport_failed, close}
 use Rattle.turn_state.specs.Sequence.{Call, Start, Handle, Send, Poll, TransportFailed, Close}
+use Rattle.stun_frame.specs.declared.ChannelData.{ChannelData}
 
 -- by_num: HashMap<u16, SocketAddr>
 pub record Named : Type 0 where
@@ -30,7 +28,7 @@ under_num num x = eqb x.num num
 
 -- by_num.get(&num)
 abbrev pub named : ℕ → List Named → Option Address
-named num m = if_let (get (under_num num) m) (λ x. some x.peer) none
+named num m = if_let (get (under_num num) m) (λ x. Some x.peer) None
 
 -- struct TurnClient, whole; and a method's run over it
 pub record Rust : Type 0 where
@@ -85,9 +83,9 @@ rust_handle_message now buf w =
     (if_let (get (under_id (tid_of buf)) w.run.self.txns) (λ txn. rust_answer now buf txn w) w)
 
 -- handle: if let Some(peer) = self.by_num.get(&num)
-abbrev pub rust_handle_channel : ℕ → List ℕ → Channel → Whole → Whole
-rust_handle_channel now buf (ChannelOf num start len) w = if_let (named num w.by_num) (λ peer. on_run (tell (Data peer start len)) w) w
-rust_handle_channel now buf NoChannel w = cond (readable buf) (rust_handle_message now buf w) w
+abbrev pub rust_handle_channel : ℕ → List ℕ → Option ChannelData → Whole → Whole
+rust_handle_channel now buf (Some d) w = if_let (named d.number w.by_num) (λ peer. on_run (tell (Data peer d.start d.len)) w) w
+rust_handle_channel now buf None w = cond (readable buf) (rust_handle_message now buf w) w
 
 abbrev pub rust_handle : ℕ → List ℕ → Whole → Whole
 rust_handle now buf w = rust_handle_channel now buf (decode_channel_data buf) w

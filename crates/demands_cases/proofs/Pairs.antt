@@ -1,9 +1,9 @@
 -- Demand 3 is about something, and its premise is needed. Whole sessions are computed by the definition; the bytes that they are held to
 -- were made by Python's hashlib, hmac and zlib. Username "u", realm "r", nonce "n"; passwords "a" and "museum".
+use Rattle.std.specs.Prelude.{Option, Some}
 use mathlib.Core.Path.{◌≡◌, refl}
 use mathlib.Core.Bool.{Bool, true, false, cond}
 use mathlib.Core.List.{List, [], ◌∷◌, ◌++◌, map, flat_map}
-use mathlib.Core.Option.{Option, some}
 use Prim.Native.Nat.{ℕ, ◌+◌}
 use lib.ListN.{length, take, replicate}
 use lib.Dec.{eqb}
@@ -119,11 +119,11 @@ successes_alike = refl
 abbrev check : List ℕ → List ℕ → Option Bool
 check password success = checked (after (opened (0x75 ∷ []) password false) (take 4 (calls success))) (Handle 4 success (id 5) 1500)
 
-one_passes : check one one_permitted ≡ some true
+one_passes : check one one_permitted ≡ Some true
 unfolding well_formed parts sequence subpart replaced number insert_txn insert_perm insert_chan request start create_permission bind_channel handle on_success on_failure retry send encoded with_integrity with_fingerprint push_attr hmac key_block digest padding absorbed result flat_map f K schedule round rounds step T operation turn turns md5_step crc32 dividend divide stream number_of class is_stun is_channel_data decode_channel_data encode_xor_addr decode_xor_addr attributes_from readable get_of error_code_of lifetime_of xor_addr_of integrity_from verified long_term
 one_passes = refl
 
-other_passes : check other other_permitted ≡ some true
+other_passes : check other other_permitted ≡ Some true
 unfolding well_formed parts sequence subpart replaced number insert_txn insert_perm insert_chan request start create_permission bind_channel handle on_success on_failure retry send encoded with_integrity with_fingerprint push_attr hmac key_block digest padding absorbed result flat_map f K schedule round rounds step T operation turn turns md5_step crc32 dividend divide stream number_of class is_stun is_channel_data decode_channel_data encode_xor_addr decode_xor_addr attributes_from readable get_of error_code_of lifetime_of xor_addr_of integrity_from verified long_term
 other_passes = refl
 

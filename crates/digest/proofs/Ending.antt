@@ -75,21 +75,22 @@ module _ (d : Digest) (is64 : d.block ≡ 64) (r : Running) (full : length r.tai
   waits : length (take (r.count % 64) r.tail) ≡ r.count % 64
   waits = simp length-take (omega arith)
 
-  pub finished_short : {front last words : List ℕ} → r.count % 64 < 56 → front ≡ filled 64 (marked (take (r.count % 64) r.tail))
-      → last ≡ take 56 front ++ length_field d r.count → words ≡ d.step r.words last → result d words ≡ finished d r
+  pub finished_short : {o : Order} {front last words : List ℕ} → o ≡ d.order → r.count % 64 < 56
+      → front ≡ filled 64 (marked (take (r.count % 64) r.tail)) → last ≡ take 56 front ++ bytes o 8 (8 * r.count % 2 ^ 64)
+      → words ≡ d.step r.words last → result d words ≡ finished d r
   unfolding finished
-  finished_short lt f l w =
+  finished_short {o} {front} e lt f l w =
       ap (result d)
-      (w ∙ ap (d.step r.words) (l ∙ ap (λ (x : List ℕ). take 56 x ++ length_field d r.count) f)
+      (w ∙ ap (d.step r.words) (l ∙ ap₂ (λ (x : List ℕ) (o : Order). take 56 x ++ bytes o 8 (8 * r.count % 2 ^ 64)) f e)
       ∙ sym (ending_short d is64 r.words (take (r.count % 64) r.tail) r.count waits lt))
       ∙ rw is64
 
-  pub finished_long : {front last words₁ words₂ : List ℕ} → 56 ≤ r.count % 64 → front ≡ filled 64 (marked (take (r.count % 64) r.tail))
-      → words₁ ≡ d.step r.words front → last ≡ take 56 (replicate 64 0) ++ length_field d r.count → words₂ ≡ d.step words₁ last
-      → result d words₂ ≡ finished d r
+  pub finished_long : {o : Order} {front last words₁ words₂ : List ℕ} → o ≡ d.order → 56 ≤ r.count % 64
+      → front ≡ filled 64 (marked (take (r.count % 64) r.tail)) → words₁ ≡ d.step r.words front
+      → last ≡ take 56 (replicate 64 0) ++ bytes o 8 (8 * r.count % 2 ^ 64) → words₂ ≡ d.step words₁ last → result d words₂ ≡ finished d r
   unfolding finished
-  finished_long ge f w l v =
+  finished_long e ge f w l v =
       ap (result d)
-      (v ∙ ap₂ d.step (w ∙ ap (d.step r.words) f) l
+      (v ∙ ap₂ d.step (w ∙ ap (d.step r.words) f) (l ∙ ap (λ (o : Order). take 56 (replicate 64 0) ++ bytes o 8 (8 * r.count % 2 ^ 64)) e)
       ∙ sym (ending_long d is64 r.words (take (r.count % 64) r.tail) r.count waits ge))
       ∙ rw is64

@@ -1,12 +1,15 @@
 -- A block that fills up from the front: `onto n p` is p with zeros up to n, and one more byte lands right after p.
 use mathlib.Core.Path.{◌≡◌, refl, sym, ap, ◌∙◌}
 use Prim.Native.Nat.{ℕ, zero, suc, ◌+◌, ◌-◌, ◌≤◌, ◌<◌, min}
-use native.Mathlib.Nat.{suc-sub-suc, le_of_suc-le-suc, not-suc-le-zero, sub-zero, min-zero, zero-min, suc-min-suc}
+use native.Mathlib.Nat.{suc-sub-suc, sub-zero}
 use native.Mathlib.Numerals.{add-one}
 use native.Mathlib.Omega.{arith}
-use mathlib.Core.List.{List, [], ◌∷◌, ◌++◌, append_assoc}
-use lib.ListN.{length, take, set, replicate, get_or, length-append, length-take}
-use lib.Seq.{set_at, take-append-add, append_snoc, take-nil, take-suc}
+use mathlib.Core.List.{List, [], ◌∷◌, ◌++◌, append_assoc, append-nil}
+use lib.ListN.{length, take, drop, drop_of_length-le, set, replicate, get_or, length-append, length-take}
+use lib.Seq.{set_at, take-append-add, append_snoc, take-suc, take_at, drop_at}
+use borrow.Rule.Slice.PartMut.{put_mid}
+use lib.Seq.{drop-drop}
+use Rattle.std.proofs.lemmas.List.{drop-replicate, take-replicate, take_min}
 use Rattle.digest.specs.Running.{filled}
 
 abbrev pub onto : ℕ → List ℕ → List ℕ
@@ -29,23 +32,13 @@ onto_next n p q i k e h room =
     let t : (p ++ take i q) ++ (get_or q i 0 ∷ []) ≡ p ++ take (i + 1) q = rw (add-one, take-suc q i 0 h) (append_assoc p (take i q) _) in
     ap (λ (k : ℕ). set (onto n (p ++ take i q)) k (get_or q i 0)) l ∙ onto_more n (p ++ take i q) (get_or q i 0) (omega arith) ∙ ap (onto n) t
 
-take_replicate : (n k : ℕ) → n ≤ k → take {A = ℕ} n (replicate k 0) ≡ replicate n 0
-take_replicate zero k h = refl
-take_replicate (suc n) zero h = absurd (not-suc-le-zero h)
-take_replicate (suc n) (suc k) h = ap {B = List ℕ} (λ l. 0 ∷ l) (take_replicate n k (le_of_suc-le-suc h))
-
 pub take-onto : (n k : ℕ) (xs : List ℕ) → n ≤ length xs + k → take n (xs ++ replicate k 0) ≡ onto n (take n xs)
 take-onto zero k xs h = refl
-take-onto (suc n) k [] h = rw sub-zero (take_replicate (suc n) k (omega arith))
+take-onto (suc n) k [] h = rw sub-zero (take-replicate (suc n) k 0 (omega arith))
 take-onto (suc n) k (x ∷ xs) h = rw suc-sub-suc (ap {B = List ℕ} (λ l. x ∷ l) (take-onto n k xs (omega arith)))
 
 pub filled_onto : (n : ℕ) (xs : List ℕ) → filled n xs ≡ onto n (take n xs)
 filled_onto n xs = take-onto n n xs (omega arith)
-
-pub take_min : (k : ℕ) (l : List ℕ) → take (min k (length l)) l ≡ take k l
-take_min k [] = rw min-zero (sym (take-nil k))
-take_min zero (x ∷ xs) = rw zero-min
-take_min (suc k) (x ∷ xs) = rw suc-min-suc (ap {B = List ℕ} (λ l. x ∷ l) (take_min k xs))
 
 -- what stands in a block of n after p and the part of q that fits
 pub filled_append : (n : ℕ) (p q : List ℕ) → length p ≤ n → filled n (p ++ q) ≡ onto n (p ++ take (min (n - length p) (length q)) q)
@@ -63,3 +56,22 @@ laid_end before part at from n h f e =
     let l : length (take at before) ≡ from = simp length-take (omega arith) in
     let e' : n ≡ min (64 - length (take at before)) (length part) = rw l e in
     rw (same, e') (sym (filled_append 64 (take at before) part (omega arith)))
+
+-- the same where the second copy is a write to a part of a block whose front is the first
+pub laid_by : (before part zeros front behind : List ℕ) (at from n k : ℕ) → length before ≡ 64 → zeros ≡ replicate 64 0 → from ≡ min at 64
+    → n ≡ min (length part) (64 - from) → k ≡ n → front ≡ take from before → behind ≡ take n part
+    → put_mid from k (front ++ drop from zeros) behind ≡ filled 64 (take at before ++ part)
+laid_by before part zeros front behind at from n k h z f e m p q =
+    let l : length front ≡ from = rw (p, length-take) (omega arith) in
+    let r : length behind ≡ n = rw (q, length-take) (omega arith) in
+    let s : 64 - from - k ≡ 64 - length (front ++ behind) = simp length-append (omega arith) in
+    let rest : drop k (drop from zeros) ≡ replicate (64 - length (front ++ behind)) 0 =
+    rw (z, drop-replicate {X = ℕ} from 64 0, drop-replicate {X = ℕ} k (64 - from) 0, s) in
+    rw (take_at front (drop from zeros) from l, drop_at front (drop from zeros) from l, rest)
+    (sym (append_assoc front behind _) ∙ rw (p, q) (laid_end before part at from n h f (omega arith)))
+
+-- the length is written at the end of a last block
+pub put_length : (block new size : List ℕ) → length block ≡ 64 → new ≡ size → put_mid 56 8 block new ≡ take 56 block ++ size
+put_length block new size h e =
+    let rest : drop 8 (drop 56 block) ≡ [] = drop-drop 8 56 block ∙ drop_of_length-le block {i = 64} (omega arith) in
+    rw (rest, e) (ap (λ (x : List ℕ). take 56 block ++ x) (append-nil size))

@@ -4,4 +4,6 @@ pub mod Fill
 pub mod Ending
 pub mod Update
 pub mod Bits
+pub mod Word
+pub mod Output
 pub mod Hmac

@@ -115,3 +115,8 @@ module _ (d : Digest) (pos : 0 < d.block) where
     finished_run m =
         ap (finished d) (run_is m)
         ∙ rw (held_run m, padding_mod (length m)) (ap (result d) (sym (absorbed_append d.start m (padding d (length m)))))
+
+-- a message in one part, over blocks of 64 bytes
+pub one_part : (d : Digest) {r r' : Running} {out : List ℕ} (m : List ℕ) → d.block ≡ 64 → r ≡ fresh d → r' ≡ fed d r m → out ≡ finished d r' → out ≡ digest d m
+one_part d m is64 e f o =
+    o ∙ ap (finished d) (f ∙ ap (λ (r : Running). fed d r m) e) ∙ finished_run d (omega arith) (λ n. rw is64 (omega arith)) m

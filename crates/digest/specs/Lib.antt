@@ -5,3 +5,4 @@ pub mod Bytes
 pub mod Digest
 pub mod Running
 pub mod Hmac
+pub mod View

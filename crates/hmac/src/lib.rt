@@ -34,11 +34,9 @@ impl HmacSha1 {
     pub fn update(self, part: &[u8]) -> Self
         ensures { keyed_view result ≡ keyed_fed sha1 (keyed_view self) part.now }
     {
-        let inner = self.inner;
-        let outer = self.outer;
         Self {
-            inner: inner.update(part),
-            outer,
+            inner: self.inner.update(part),
+            outer: self.outer,
         }
     }
 
@@ -46,10 +44,8 @@ impl HmacSha1 {
     pub fn finish(self) -> [u8; 20]
         ensures { result ≡ keyed_finished sha1 (keyed_view self) }
     {
-        let inner = self.inner;
-        let outer = self.outer;
-        let text = inner.finish();
-        outer.update(&text).finish()
+        let text = self.inner.finish();
+        self.outer.update(&text).finish()
     }
 }
 
@@ -72,14 +68,13 @@ fn key_block(key: &[u8]) -> [u8; 64]
     digest::laid([0; 64], 0, key)
 }
 
+// Each byte of a block XOR b.
 fn masked(block: [u8; 64], b: u8) -> [u8; 64]
     ensures { result ≡ map (λ x. bit_xor x b) block }
 {
-    let mut out = [0; 64];
-    let mut i = 0;
-    while i < 64 {
-        out[i] = block[i] ^ b;
-        i += 1;
+    let mut out = block;
+    for x in &mut out {
+        *x ^= b;
     }
     out
 }

@@ -3,22 +3,17 @@
 // four. The file `stdout` has what tools/make-vectors makes.
 #![tactic(auto)]
 
-ghost use Rattle.std.specs.Prelude.{◌≤◌, length};
+ghost use Rattle.std.specs.Prelude.{◌≤◌};
 
 use hmac::HmacSha1;
 use std::io;
 
-fn in_two(key: &[u8], m: &[u8], c: usize) -> [u8; 20]
-    requires { c ≤ length m.now }
-{
-    HmacSha1::new(key).update(&m[0..c]).update(&m[c..]).finish()
-}
-
-fn in_four(key: &[u8], m: &[u8]) -> [u8; 20]
-    requires { 129 ≤ length m.now }
-{
-    let s = HmacSha1::new(key).update(&m[0..1]).update(&m[1..64]);
-    s.update(&m[64..129]).update(&m[129..]).finish()
+// The code of a text in parts.
+fn in_parts(key: &[u8], parts: &[&[u8]]) -> [u8; 20] {
+    parts
+        .iter()
+        .fold(HmacSha1::new(key), |s, part| s.update(part))
+        .finish()
 }
 
 fn print_example(rt: &impl Print, name: &[u8], key: &[u8], m: &[u8]) -> io::Result<()> {
@@ -53,53 +48,28 @@ fn print_examples(rt: &impl Print) -> io::Result<()> {
     )
 }
 
-fn print_cut(rt: &impl Print, key: &[u8], m: &[u8], c: usize) -> io::Result<()> {
-    if c <= m.len() {
-        vectors::print_cut(rt, m.len(), c, &in_two(key, m, c))?;
-    }
-    Ok(())
-}
-
-fn print_cuts(rt: &impl Print, key: &[u8], m: &[u8]) -> io::Result<()> {
-    for i in 0..vectors::CUTS {
-        print_cut(rt, key, m, vectors::cut(i))?;
-    }
-    Ok(())
-}
-
-// The lines of one message in two parts and in four.
-fn print_parts(rt: &impl Print, key: &[u8], m: &[u8]) -> io::Result<()> {
-    print_cuts(rt, key, m)?;
-    if m.len() >= 130 {
-        vectors::print_four(rt, m.len(), &in_four(key, m))?;
-    }
-    Ok(())
-}
-
-// The lines of one message.
-fn print_message(rt: &impl Print, key: &[u8], m: &[u8]) -> io::Result<()> {
-    vectors::print_whole(rt, m.len(), &hmac::digest(key, m))?;
-    if key.len() == 20 {
-        print_parts(rt, key, m)?;
-    }
-    Ok(())
-}
-
-fn print_messages(rt: &impl Print, key: &[u8], m: &[u8]) -> io::Result<()> {
-    vectors::print_key(rt, key.len())?;
+// The lines of the messages of each length from 0 to 260, under the first k bytes of the key.
+fn print_messages(rt: &impl Print, k: usize) -> io::Result<()>
+    requires { k ≤ 131 }
+{
+    let key = vectors::key();
+    let key = &key[..k];
+    let m = vectors::message();
+    println!(rt; "key {k}")?;
     for n in 0..=m.len() {
-        print_message(rt, key, &m[0..n])?;
+        let m = &m[..n];
+        vectors::print_whole(rt, n, &hmac::digest(key, m))?;
+        if k == 20 {
+            vectors::print_parts(rt, m, &|parts: &[&[u8]]| in_parts(key, parts))?;
+        }
     }
     Ok(())
 }
 
 fn main(rt: HostRuntime) -> io::Result<()> {
     print_examples(&rt)?;
-    let key = vectors::key();
-    let m = vectors::message();
-    print_messages(&rt, &key[0..0], &m)?;
-    print_messages(&rt, &key[0..20], &m)?;
-    print_messages(&rt, &key[0..64], &m)?;
-    print_messages(&rt, &key[0..65], &m)?;
-    print_messages(&rt, &key, &m)
+    for k in [0, 20, 64, 65, 131] {
+        print_messages(&rt, k)?;
+    }
+    Ok(())
 }

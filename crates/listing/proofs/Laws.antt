@@ -8,18 +8,11 @@ use native.Mathlib.Omega.{arith}
 use lib.ListN.{get_or}
 use lib.Dec.{ltb, eqb}
 use borrow.Author.Tests.{ltb-true, ltb-false, ne_eqb}
-use Rattle.turn_deadline.specs.declared.Deadline.{Deadline}
-use Rattle.turn_deadline.specs.declared.Deadline.TheVariants.{At, Never}
-use Rattle.listing.specs.declared.Line.{Line}
+use Rattle.std.specs.Prelude.{Option, Some, None}
 use Rattle.listing.specs.declared.Call.{Call}
 use Rattle.listing.specs.declared.Call.TheVariants.{Start, Data, Send, Poll, Lost, Close}
 use Rattle.listing.specs.Listing.{digit, decimal, blank, newline, name, due, call_text}
-use Rattle.listing.specs.Held.{Holds}
 use Rattle.listing.proofs.Numbers.{decimal_one, decimal_more}
-
--- two lines that hold one text are one
-pub same_line : {text : List ℕ} {a b : Line} → Holds text a → Holds text b → a ≡ b
-same_line h k = h.whole ∙ sym k.whole
 
 -- an induction over the digits of a number, from the first on
 by_digits : (P : ℕ → Type 0) → ((n : ℕ) → n < 10 → P n) → ((n : ℕ) → 9 < n → P (n / 10) → P n) → (k n : ℕ) → n < k → P n
@@ -97,9 +90,9 @@ clear_name Poll = omega arith
 clear_name Lost = omega arith
 clear_name Close = omega arith
 
-clear_due : (deadline : Deadline) → Clear (due deadline)
-clear_due (At t) = clear_decimal t
-clear_due Never = (omega arith, tt)
+clear_due : (deadline : Option ℕ) → Clear (due deadline)
+clear_due (Some t) = clear_decimal t
+clear_due None = (omega arith, tt)
 
 -- two words before a blank or a newline, and what follows
 cut : (s : ℕ) → s ≤ 32 → (u v x y : List ℕ) → Clear u → Clear v → u ++ (s ∷ x) ≡ v ++ (s ∷ y) → (u ≡ v) × (x ≡ y)
@@ -126,22 +119,22 @@ named_name Poll = refl
 named_name Lost = refl
 named_name Close = refl
 
-timed : List ℕ → Deadline
-timed l = cond (eqb (get_or l 0 0) 45) Never (At (value_after 0 l))
+timed : List ℕ → Option ℕ
+timed l = cond (eqb (get_or l 0 0) 45) None (Some (value_after 0 l))
 
 first_digit : (n : ℕ) → 48 ≤ get_or (decimal n) 0 0
 first_digit zero = rw (decimal_one 0 (omega arith)) (omega arith)
 first_digit (suc n) = omega (arith, decimal_front (suc n) (omega arith))
 
-timed_due : (deadline : Deadline) → timed (due deadline) ≡ deadline
+timed_due : (deadline : Option ℕ) → timed (due deadline) ≡ deadline
 unfolding timed
-timed_due (At t) =
-    ap (λ (b : Bool). cond b Never (At (value_after 0 (decimal t)))) (ne_eqb (get_or (decimal t) 0 0) 45 (λ e. omega (arith, first_digit t)))
-    ∙ ap At (decimal_value t)
-timed_due Never = refl
+timed_due (Some t) =
+    ap (λ (b : Bool). cond b None (Some (value_after 0 (decimal t)))) (ne_eqb (get_or (decimal t) 0 0) 45 (λ e. omega (arith, first_digit t)))
+    ∙ ap Some (decimal_value t)
+timed_due None = refl
 
 pub record SameParts (number number' : ℕ) (call call' : Call) (refusal refusal' events events' packets packets' bytes bytes' : ℕ)
-    (deadline deadline' : Deadline) : Type 0 where
+    (deadline deadline' : Option ℕ) : Type 0 where
   pub numbers : number ≡ number'
   pub calls : call ≡ call'
   pub refusals : refusal ≡ refusal'
@@ -154,7 +147,7 @@ decimal_same : (m n : ℕ) → decimal m ≡ decimal n → m ≡ n
 decimal_same m n e = sym (decimal_value m) ∙ ap (value_after 0) e ∙ decimal_value n
 
 -- two calls' lines are equal only where all their parts are
-pub line_says : (n n' : ℕ) (c c' : Call) (r r' e e' p p' b b' : ℕ) (d d' : Deadline)
+pub line_says : (n n' : ℕ) (c c' : Call) (r r' e e' p p' b b' : ℕ) (d d' : Option ℕ)
     → call_text n c r e p b d ≡ call_text n' c' r' e' p' b' d' → SameParts n n' c c' r r' e e' p p' b b' d d'
 line_says n n' c c' r r' e e' p p' b b' d d' same =
     let one = cut blank (omega arith) (decimal n) (decimal n') _ _ (clear_decimal n) (clear_decimal n') same in

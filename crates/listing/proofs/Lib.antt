@@ -1,5 +1,4 @@
 -- The laws of the listing's numbers and lines.
 pub mod Numbers
-pub mod Texts
 pub mod Laws
 pub mod Published

@@ -1,3 +1,2 @@
--- The replay listing's lines as lists of bytes, and what the code's struct holds of one.
+-- The replay listing's lines as lists of bytes.
 pub mod Listing
-pub mod Held

@@ -1,9 +1,9 @@
 -- The lines of a replay listing (document 01, "The replay tape"), in ASCII: words with one blank between, a newline at the end.
-use Rattle.std.specs.Prelude.{ℕ, zero, suc, ◌+◌, ◌/◌, ◌%◌, cond, List, [], ◌∷◌, ◌++◌, ltb}
-use Rattle.turn_deadline.specs.declared.Deadline.{Deadline}
-use Rattle.turn_deadline.specs.declared.Deadline.TheVariants.{At, Never}
+use Rattle.std.specs.Prelude.{ℕ, zero, suc, ◌+◌, ◌/◌, ◌%◌, cond, List, [], ◌∷◌, ◌++◌, Option, Some, None, ltb}
 use Rattle.listing.specs.declared.Call.{Call}
 use Rattle.listing.specs.declared.Call.TheVariants.{Start, Data, Send, Poll, Lost, Close}
+use Rattle.listing.specs.declared.Line.{Line}
+use Rattle.listing.specs.declared.Line.TheVariants.{First, Called, Bad, Refused}
 
 -- the digit of a number below 10: `0` is 48
 abbrev pub digit : ℕ → ℕ
@@ -44,16 +44,16 @@ abbrev pub dash : List ℕ
 dash = 45 ∷ []
 
 -- the next deadline, or `-`
-abbrev pub due : Deadline → List ℕ
-due (At t) = decimal t
-due Never = dash
+abbrev pub due : Option ℕ → List ℕ
+due (Some t) = decimal t
+due None = dash
 
 -- `turn-replay 1`
 abbrev pub first_text : List ℕ
 first_text = line ((116 ∷ 117 ∷ 114 ∷ 110 ∷ 45 ∷ 114 ∷ 101 ∷ 112 ∷ 108 ∷ 97 ∷ 121 ∷ []) ∷ decimal 1 ∷ [])
 
 -- call number, name, refusal, events, packets, packet bytes without field heads, next deadline
-abbrev pub call_text : ℕ → Call → ℕ → ℕ → ℕ → ℕ → Deadline → List ℕ
+abbrev pub call_text : ℕ → Call → ℕ → ℕ → ℕ → ℕ → Option ℕ → List ℕ
 call_text number call refusal events packets bytes deadline =
     line (decimal number ∷ name call ∷ decimal refusal ∷ decimal events ∷ decimal packets ∷ decimal bytes ∷ due deadline ∷ [])
 
@@ -65,3 +65,10 @@ bad_text place = line ((98 ∷ 97 ∷ 100 ∷ []) ∷ decimal place ∷ [])
 abbrev pub refused_text : ℕ → List ℕ
 refused_text number =
     line (decimal 0 ∷ (111 ∷ 112 ∷ 101 ∷ 110 ∷ []) ∷ decimal number ∷ decimal 0 ∷ decimal 0 ∷ decimal 0 ∷ dash ∷ [])
+
+-- what a line prints
+abbrev pub text : Line → List ℕ
+text First = first_text
+text (Called number call refusal events packets bytes deadline) = call_text number call refusal events packets bytes deadline
+text (Bad place) = bad_text place
+text (Refused number) = refused_text number

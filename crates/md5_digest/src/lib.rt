@@ -1,19 +1,53 @@
-// MD5, RFC 1321: of a whole message (`digest`), or of one that comes in parts (`Md5`). The operations
-// of section 3.4 go by fours, each round in a loop of its own. Sections 3.1, 3.2 and 3.5, the
-// padding and the output, are in the crate that the digests share.
+// MD5, RFC 1321: of a whole message (`digest`), or of one that comes in parts (`Md5`). Sections 3.1,
+// 3.2 and 3.5, the padding and the output, are in the crate that the digests share; here is the step
+// of section 3.4.
 #![tactic(auto)]
 
-ghost use Rattle.std.specs.Prelude.{◌≡◌, ◌+◌, ◌*◌, ◌/◌, ◌%◌, ◌<◌, ◌≤◌, length, take, drop, slice_index};
+ghost use Rattle.std.specs.Prelude.{◌≡◌, refl, ◌+◌, ◌*◌, ◌/◌, ◌%◌, ◌<◌, ◌≤◌, length, take, drop, slice_index};
 ghost use Rattle.digest.specs.Bytes.{little, number};
-ghost use Rattle.digest.specs.Digest.{digest, result as result_of};
-ghost use Rattle.digest.specs.Running.{fresh, fed, finished};
-ghost use Rattle.md5_digest.specs.Rfc1321.{T, State, state, operation, rounds, turns, words, step, md5};
-ghost use Rattle.md5_digest.specs.View.{view};
+ghost use Rattle.digest.specs.Digest.{digest as digest_of};
+ghost use Rattle.md5_digest.specs.Rfc1321.{State, state, rounds, turn as turn_of, turns, words, step as step_of, md5};
 
-use std::num::{wrapping_add_u32, wrapping_add_u64};
+use digest::{Compression, Hasher};
+
+// A message that comes in parts.
+pub type Md5 = Hasher<Rfc1321, [u32; 4]>;
+
+// MD5 as a digest of the family.
+#[derive(Clone, Copy)]
+pub struct Rfc1321;
+
+impl Compression<[u32; 4]> for Rfc1321 {
+    type Output = [u8; 16];
+
+    ghost parameters = { md5 };
+
+    ghost words = { λ h. h };
+
+    ghost bytes = { λ m. m };
+
+    ghost blocks_of_64 = { refl };
+
+    fn is_big() -> bool {
+        false
+    }
+
+    fn start() -> [u32; 4] {
+        [0x67452301, 0xefcdab89, 0x98badcfe, 0x10325476]
+    }
+
+    fn step(h: [u32; 4], block: &[u8]) -> [u32; 4] {
+        step(h, block)
+    }
+
+    #[tactic(auto, unfolding(digest::specs::Digest::result))]
+    fn result(h: [u32; 4]) -> [u8; 16] {
+        digest::spelled(h, false)
+    }
+}
 
 // T, section 3.4.
-const TABLE: [u32; 64] = [
+static TABLE: [u32; 64] = [
     0xd76aa478, 0xe8c7b756, 0x242070db, 0xc1bdceee, 0xf57c0faf, 0x4787c62a, 0xa8304613, 0xfd469501,
     0x698098d8, 0x8b44f7af, 0xffff5bb1, 0x895cd7be, 0x6b901122, 0xfd987193, 0xa679438e, 0x49b40821,
     0xf61e2562, 0xc040b340, 0x265e5a51, 0xe9b6c7aa, 0xd62f105d, 0x02441453, 0xd8a1e681, 0xe7d3fbc8,
@@ -24,12 +58,13 @@ const TABLE: [u32; 64] = [
     0x6fa87e4f, 0xfe2ce6e0, 0xa3014314, 0x4e0811a1, 0xf7537e82, 0xbd3af235, 0x2ad7d2bb, 0xeb86d391,
 ];
 
-fn constant(i: usize) -> u32
-    requires { i < 64 }
-    ensures { result ≡ slice_index T i }
-{
-    TABLE[i]
-}
+// The shifts of the four rounds, section 3.4.
+static SHIFTS: [[u32; 4]; 4] = [
+    [7, 12, 17, 22],
+    [5, 9, 14, 20],
+    [4, 11, 16, 23],
+    [6, 10, 15, 21],
+];
 
 // The function of round n, F, G, H or I. F and G have fewer operations than section 3.4 writes.
 fn mix(n: usize, x: u32, y: u32, z: u32) -> u32
@@ -65,77 +100,45 @@ fn place(n: usize, i: usize) -> usize
     7 * i % 16
 }
 
-// Operation i, in round n.
-fn turn(n: usize, i: usize, a: u32, b: u32, c: u32, d: u32, x: &[u32; 16], s: u32) -> u32
-    requires { (n < 4) × (i < 64) × (s < 32) }
-    ensures { result ≡ operation (rounds n).function a b c d (slice_index x.now ((rounds n).word i)) s (slice_index T i) }
+// The shift of operation i, in round n.
+fn shift(n: usize, i: usize) -> u32
+    requires { n < 4 }
+    ensures { (result ≡ slice_index (rounds n).shifts (i % 4)) × (result < 32) }
 {
-    let f = mix(n, b, c, d);
-    let k = place(n, i);
-    let sum = wrapping_add_u32(wrapping_add_u32(wrapping_add_u32(a, f), x[k]), constant(i));
-    wrapping_add_u32(b, digest::rotate_left(sum, s))
+    SHIFTS[n][i % 4]
 }
 
-// Four operations of round 1, from an i that 4 divides: [ABCD], [DABC], [CDAB], [BCDA]. Each round
-// has a function of its own, with its numbers written out, so that the compiler can use them.
-fn four_f(s: [u32; 4], x: &[u32; 16], i: usize) -> [u32; 4]
-    requires { (i / 16 ≡ 0) × (i % 4 ≡ 0) }
-    ensures { (h : State) → state s ≡ turns x.now i h → state result ≡ turns x.now (i + 4) h }
+// Operation i, in round n, which leaves the registers in the order in which the next one takes them.
+fn turn(n: usize, i: usize, s: [u32; 4], x: &[u32; 16]) -> [u32; 4]
+    requires { (i / 16 ≡ n) × (n < 4) }
+    ensures { state result ≡ turn_of x.now i (state s) }
 {
-    let a = s[0];
-    let b = s[1];
-    let c = s[2];
-    let d = s[3];
-    let a = turn(0, i, a, b, c, d, x, 7);
-    let d = turn(0, i + 1, d, a, b, c, x, 12);
-    let c = turn(0, i + 2, c, d, a, b, x, 17);
-    let b = turn(0, i + 3, b, c, d, a, x, 22);
-    [a, b, c, d]
+    let [a, b, c, d] = s;
+    let sum = a
+        .wrapping_add(mix(n, b, c, d))
+        .wrapping_add(x[place(n, i)])
+        .wrapping_add(TABLE[i]);
+    [
+        d,
+        b.wrapping_add(digest::rotate_left(sum, shift(n, i))),
+        b,
+        c,
+    ]
 }
 
-fn four_g(s: [u32; 4], x: &[u32; 16], i: usize) -> [u32; 4]
-    requires { (i / 16 ≡ 1) × (i % 4 ≡ 0) }
-    ensures { (h : State) → state s ≡ turns x.now i h → state result ≡ turns x.now (i + 4) h }
+// Round N: sixteen operations. With N it is known when it is compiled which function is meant. `next`,
+// since a call's result is not laid in an array that it was passed.
+#[tactic(auto, using(crate::proofs::Turns::one_more))]
+fn round<const N: usize>(s: [u32; 4], x: &[u32; 16]) -> [u32; 4]
+    requires { N < 4 }
+    ensures { (h : State) → state s ≡ turns x.now (16 * N) h → state result ≡ turns x.now (16 * N + 16) h }
 {
-    let a = s[0];
-    let b = s[1];
-    let c = s[2];
-    let d = s[3];
-    let a = turn(1, i, a, b, c, d, x, 5);
-    let d = turn(1, i + 1, d, a, b, c, x, 9);
-    let c = turn(1, i + 2, c, d, a, b, x, 14);
-    let b = turn(1, i + 3, b, c, d, a, x, 20);
-    [a, b, c, d]
-}
-
-fn four_h(s: [u32; 4], x: &[u32; 16], i: usize) -> [u32; 4]
-    requires { (i / 16 ≡ 2) × (i % 4 ≡ 0) }
-    ensures { (h : State) → state s ≡ turns x.now i h → state result ≡ turns x.now (i + 4) h }
-{
-    let a = s[0];
-    let b = s[1];
-    let c = s[2];
-    let d = s[3];
-    let a = turn(2, i, a, b, c, d, x, 4);
-    let d = turn(2, i + 1, d, a, b, c, x, 11);
-    let c = turn(2, i + 2, c, d, a, b, x, 16);
-    let b = turn(2, i + 3, b, c, d, a, x, 23);
-    [a, b, c, d]
-}
-
-fn four_i(s: [u32; 4], x: &[u32; 16], i: usize) -> [u32; 4]
-    requires { (i / 16 ≡ 3) × (i % 4 ≡ 0) }
-    ensures { (h : State) → state s ≡ turns x.now i h → state result ≡ turns x.now (i + 4) h }
-{
-    let a = s[0];
-    let b = s[1];
-    let c = s[2];
-    let d = s[3];
-    let a = turn(3, i, a, b, c, d, x, 6);
-    let d = turn(3, i + 1, d, a, b, c, x, 10);
-    let c = turn(3, i + 2, c, d, a, b, x, 15);
-    let b = turn(3, i + 3, b, c, d, a, x, 21);
-    [a, b, c, d]
+    let mut s = s;
+    for i in 16 * N..16 * N + 16 {
+        let next = turn(N, i, s, x);
+        s = next;
+    }
+    s
 }
 
 // A word of the block, low byte first.
@@ -152,10 +155,8 @@ fn block_words(m: &[u8]) -> [u32; 16]
     ensures { result ≡ words 16 m.now }
 {
     let mut x = [0u32; 16];
-    let mut i = 0;
-    while i < 16 {
+    for i in 0..16 {
         x[i] = word(m, 4 * i);
-        i += 1;
     }
     x
 }
@@ -164,131 +165,30 @@ fn block_words(m: &[u8]) -> [u32; 16]
 fn rounds(h: [u32; 4], x: &[u32; 16]) -> [u32; 4]
     ensures { state result ≡ turns x.now 64 (state h) }
 {
-    let mut s = h;
-    let mut i = 0;
-    while i < 16 {
-        let next = four_f(s, x, i);
-        s = next;
-        i += 4;
-    }
-    while i < 32 {
-        let next = four_g(s, x, i);
-        s = next;
-        i += 4;
-    }
-    while i < 48 {
-        let next = four_h(s, x, i);
-        s = next;
-        i += 4;
-    }
-    while i < 64 {
-        let next = four_i(s, x, i);
-        s = next;
-        i += 4;
-    }
-    s
+    let s = round::<0>(h, x);
+    let s = round::<1>(s, x);
+    let s = round::<2>(s, x);
+    round::<3>(s, x)
 }
 
 // The state after one more block.
-fn block(h: [u32; 4], m: &[u8]) -> [u32; 4]
+fn step(h: [u32; 4], m: &[u8]) -> [u32; 4]
     requires { length m.now ≡ 64 }
-    ensures { result ≡ step h m.now }
+    ensures { result ≡ step_of h m.now }
 {
     let x = block_words(m);
     let s = rounds(h, &x);
     [
-        wrapping_add_u32(s[0], h[0]),
-        wrapping_add_u32(s[1], h[1]),
-        wrapping_add_u32(s[2], h[2]),
-        wrapping_add_u32(s[3], h[3]),
+        s[0].wrapping_add(h[0]),
+        s[1].wrapping_add(h[1]),
+        s[2].wrapping_add(h[2]),
+        s[3].wrapping_add(h[3]),
     ]
-}
-
-// The state as bytes, low byte of A first (section 3.5).
-fn output(h: [u32; 4]) -> [u8; 16]
-    ensures { result ≡ result_of md5 h }
-{
-    let a = digest::word_bytes(h[0], false);
-    let b = digest::word_bytes(h[1], false);
-    let c = digest::word_bytes(h[2], false);
-    let d = digest::word_bytes(h[3], false);
-    [
-        a[0], a[1], a[2], a[3], b[0], b[1], b[2], b[3], c[0], c[1], c[2], c[3], d[0], d[1], d[2],
-        d[3],
-    ]
-}
-
-// The digest of a message that comes in parts: the state after its whole blocks, its bytes so far,
-// and the bytes of the block that is not full, with zeros after them.
-#[derive(Clone, Copy)]
-pub struct Md5 {
-    pub words: [u32; 4],
-    pub count: u64,
-    pub tail: [u8; 64],
-}
-
-impl Md5 {
-    // Before the first part.
-    pub fn new() -> Self
-        ensures { view result ≡ fresh md5 }
-    {
-        Self {
-            words: [0x67452301, 0xefcdab89, 0x98badcfe, 0x10325476],
-            count: 0,
-            tail: [0; 64],
-        }
-    }
-
-    // One more part.
-    pub fn update(self, part: &[u8]) -> Self
-        ensures { view result ≡ fed md5 (view self) part.now }
-    {
-        let tail = self.tail;
-        let words = self.words;
-        let n = self.count;
-        let at = (n % 64) as usize;
-        let room = 64 - at;
-        let count = wrapping_add_u64(n, part.len() as u64);
-        if part.len() < room {
-            let tail = digest::laid(tail, at, part);
-            return Self { words, count, tail };
-        }
-        let first = digest::laid(tail, at, &part[0..room]);
-        let mut words = block(words, &first);
-        let mut i = room;
-        while 64 <= part.len() - i {
-            let next = block(words, &part[i..i + 64]);
-            words = next;
-            i += 64;
-        }
-        let tail = digest::laid([0; 64], 0, &part[i..]);
-        Self { words, count, tail }
-    }
-
-    // The digest, at the end of the message.
-    #[tactic(auto, using(crate::proofs::Ends::one_block))]
-    pub fn finish(self) -> [u8; 16]
-        ensures { result ≡ finished md5 (view self) }
-    {
-        let tail = self.tail;
-        let words = self.words;
-        let n = self.count;
-        let at = (n % 64) as usize;
-        let marked = digest::laid(tail, at, &[0x80]);
-        if at < 56 {
-            let last = digest::last_block(marked, n, false);
-            return output(block(words, &last));
-        }
-        let last = digest::last_block([0; 64], n, false);
-        output(block(block(words, &marked), &last))
-    }
 }
 
 // The digest of a whole message.
 pub fn digest(m: &[u8]) -> [u8; 16]
-    ensures { result ≡ digest md5 m.now }
+    ensures { result ≡ digest_of md5 m.now }
 {
-    let fresh = Md5::new();
-    let fed = fresh.update(m);
-    fed.finish()
+    Md5::digest(m)
 }

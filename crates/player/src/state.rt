@@ -1,218 +1,174 @@
 // The lines about a client: what it holds, and its tables in their order.
-ghost use Rattle.std.specs.Prelude.{◌≤◌, length};
+use super::shown::{Hex, Host, OrDash, Place};
+use std::fmt;
+use stun_address::{Address, Ip};
+use turn_state::{Channels, Client, Credentials, Kind, Permissions, Request, Requests};
 
-use super::form;
-use stun_frame::Written;
-use stun_text::Text;
-use turn_state::{
-    Asked, Channels, Client, Credentials, Host, Permissions, Place, Request, Requests,
-};
+// A client, line by line.
+#[derive(Clone, Copy)]
+pub struct Lines<'a>(pub &'a Client);
 
-const NONE: [u64; 5] = [0; 5];
-
-// FAMILY IP, behind what is to stand before it.
-fn host(rt: &impl Print, before: &[u8], h: Host) {
-    if h.family == 2 {
-        form::form(rt, b"@2 &&", [h.high, h.low, 0, 0, 0], before);
-    } else {
-        form::form(rt, b"@1 $", [h.low, 0, 0, 0, 0], before);
+impl fmt::Display for Lines<'_> {
+    fn fmt<W: fmt::Write>(&self, f: &mut fmt::Formatter<W>) -> fmt::Result {
+        let client = self.0;
+        let held = &client.credentials;
+        let username = Words(held.username.as_slice());
+        let password = Words(client.password.as_slice());
+        let reliable = u8::from(client.reliable);
+        write!(
+            f,
+            "  username {username}\n  password {password}\n  reliable {reliable}\n"
+        )?;
+        let realm = OrDash(held.has_realm.then_some(Words(held.realm.as_slice())));
+        let nonce = OrDash(held.has_nonce.then_some(Words(held.nonce.as_slice())));
+        let key = OrDash(held.has_key.then_some(Hex(&held.key)));
+        write!(f, "  realm {realm}\n  nonce {nonce}\n  key {key}\n")?;
+        let relay = OrDash(
+            client
+                .has_relay
+                .then_some(Place(Address::from(client.relay))),
+        );
+        let done = u8::from(client.done);
+        let closing = u8::from(client.closing);
+        write!(f, "  relay {relay}\n  done {done}\n  closing {closing}\n")?;
+        let refresh = OrDash(client.has_refresh.then_some(client.refresh_at));
+        let number = client.next_num;
+        write!(f, "  refresh {refresh}\n  next-number {number}\n")?;
+        let requests = Waiting(&client.requests, held);
+        let permissions = Granted(&client.permissions);
+        let channels = Bound(&client.channels);
+        write!(f, "{requests}{permissions}{channels}")
     }
 }
 
-// FAMILY IP PORT, likewise.
-pub fn place(rt: &impl Print, before: &[u8], p: Place) {
-    let h = p.host;
-    host(rt, before, h);
-    form::form(rt, b" #", [p.port as u64, 0, 0, 0, 0], b"");
-}
+// The bytes of a text.
+#[derive(Clone, Copy)]
+struct Words<'a>(&'a [u8]);
 
-// A name, and a text that may not be held.
-fn text(rt: &impl Print, name: &[u8], held: bool, t: Text) {
-    form::form(rt, b"  @ ", NONE, name);
-    let bytes = t.bytes;
-    let all: &[u8] = &bytes;
-    let n = t.len;
-    if held && n <= all.len() {
-        form::form(rt, b"=%\n", NONE, &all[0..n]);
-    } else {
-        form::form(rt, b"-\n", NONE, b"");
+impl fmt::Display for Words<'_> {
+    fn fmt<W: fmt::Write>(&self, f: &mut fmt::Formatter<W>) -> fmt::Result {
+        let bytes = Hex(self.0);
+        write!(f, "={bytes}")
     }
 }
 
-// A time that may not be held, and the line's end.
-fn time(rt: &impl Print, held: bool, at: u64) {
-    if held {
-        form::form(rt, b" #\n", [at, 0, 0, 0, 0], b"");
-    } else {
-        form::form(rt, b" -\n", NONE, b"");
+// The pending requests, and what their packets are signed with.
+#[derive(Clone, Copy)]
+struct Waiting<'a>(&'a Requests, &'a Credentials);
+
+impl fmt::Display for Waiting<'_> {
+    fn fmt<W: fmt::Write>(&self, f: &mut fmt::Formatter<W>) -> fmt::Result {
+        for row in &self.0.rows[..self.0.len.min(64)] {
+            let id = Hex(&row.id);
+            let wanted = Wanted(Kind::from(row.asked));
+            let tries = row.tries;
+            let next = row.next;
+            let retried = u8::from(row.retried);
+            let own = Own(row, self.1);
+            write!(
+                f,
+                "  request {id} {wanted} tries {tries} next {next} retried {retried} attrs {own}\n"
+            )?;
+        }
+        Ok(())
     }
 }
 
-fn credentials(rt: &impl Print, c: Credentials) {
-    let realm = c.realm;
-    let nonce = c.nonce;
-    let key = c.key;
-    text(rt, b"realm", c.has_realm, realm);
-    text(rt, b"nonce", c.has_nonce, nonce);
-    if c.has_key {
-        form::form(rt, b"  key %\n", NONE, &key);
-    } else {
-        form::form(rt, b"  key -\n", NONE, b"");
-    }
-}
+// What a request asks for.
+#[derive(Clone, Copy)]
+struct Wanted(Kind);
 
-fn relay(rt: &impl Print, c: Client) {
-    if c.has_relay {
-        let p = c.relay;
-        place(rt, b"  relay ", p);
-    } else {
-        form::form(rt, b"  relay -", NONE, b"");
-    }
-    form::form(
-        rt,
-        b"\n  done #\n  closing #\n  refresh",
-        [c.done as u64, c.closing as u64, 0, 0, 0],
-        b"",
-    );
-    time(rt, c.has_refresh, c.refresh_at);
-    form::form(
-        rt,
-        b"  next-number #\n",
-        [c.next_num as u64, 0, 0, 0, 0],
-        b"",
-    );
-}
-
-fn kind(rt: &impl Print, a: Asked) {
-    let peer = a.peer;
-    let h = peer.host;
-    let tag = a.tag;
-    match tag {
-        0 => form::form(rt, b"allocate", NONE, b""),
-        1 => form::form(rt, b"refresh #", [a.lifetime as u64, 0, 0, 0, 0], b""),
-        2 => host(rt, b"permission ", h),
-        _ => {
-            place(rt, b"bind ", peer);
-            form::form(rt, b" #", [a.number as u64, 0, 0, 0, 0], b"");
+impl fmt::Display for Wanted {
+    fn fmt<W: fmt::Write>(&self, f: &mut fmt::Formatter<W>) -> fmt::Result {
+        match self.0 {
+            Kind::Allocate => write!(f, "allocate"),
+            Kind::Refresh(lifetime) => write!(f, "refresh {lifetime}"),
+            Kind::Permission(ip) => {
+                let host = Host(ip);
+                write!(f, "permission {host}")
+            }
+            Kind::ChannelBind(peer, number) => {
+                let place = Place(peer);
+                write!(f, "bind {place} {number}")
+            }
         }
     }
 }
 
-fn pair(high: u8, low: u8) -> usize {
-    high as usize * 256 + low as usize
-}
+// The request's own attributes: those of its packet without credentials.
+#[derive(Clone, Copy)]
+struct Own<'a>(&'a Request, &'a Credentials);
 
-// Before every attribute but the first.
-fn comma(rt: &impl Print, at: usize) {
-    if 23 < at {
-        form::form(rt, b",", NONE, b"");
+impl fmt::Display for Own<'_> {
+    fn fmt<W: fmt::Write>(&self, f: &mut fmt::Formatter<W>) -> fmt::Result {
+        let row = self.0;
+        let mut bare = *self.1;
+        bare.has_realm = false;
+        bare.has_key = false;
+        let mut out = [0u8; 128];
+        let written = turn_packet::write_packet(&mut out, 0, bare, row.asked, row.id, row.under);
+        let packet = written.map_or(None, |end| out.get(..end));
+        let attributes = Attributes(packet.unwrap_or(&[]));
+        write!(f, "{attributes}")
     }
 }
 
 // TYPE=HEX of each attribute of a packet, behind its head and the message's header, up to FINGERPRINT.
-fn attributes(rt: &impl Print, packet: &[u8])
-    requires { length packet.now ≤ 128 }
-{
-    let n = packet.len();
-    let mut at = 23;
-    while at + 8 < n {
-        let typ = pair(packet[at], packet[at + 1]);
-        let len = pair(packet[at + 2], packet[at + 3]);
-        let start = at + 4;
-        if n - start < len {
-            return;
+#[derive(Clone, Copy)]
+struct Attributes<'a>(&'a [u8]);
+
+impl fmt::Display for Attributes<'_> {
+    fn fmt<W: fmt::Write>(&self, f: &mut fmt::Formatter<W>) -> fmt::Result {
+        let mut rest = self.0.get(23..).unwrap_or(&[]);
+        let mut comma = "";
+        while 8 < rest.len() {
+            let Some((head, after)) = rest.split_first_chunk::<4>() else {
+                break;
+            };
+            let [high, low, long, short] = *head;
+            let typ = u16::from_be_bytes([high, low]);
+            let len = usize::from(u16::from_be_bytes([long, short]));
+            if after.len() < len {
+                break;
+            }
+            let value = Hex(&after[..len]);
+            write!(f, "{comma}{typ:04x}={value}")?;
+            comma = ",";
+            rest = after.get(len.next_multiple_of(4)..).unwrap_or(&[]);
         }
-        let end = start + len;
-        comma(rt, at);
-        form::form(rt, b"^=%", [typ as u64, 0, 0, 0, 0], &packet[start..end]);
-        at = end + (4 - len % 4) % 4;
+        Ok(())
     }
 }
 
-// The request's own attributes: its packet without credentials.
-fn own(rt: &impl Print, held: Credentials, r: Request) {
-    let mut c = held;
-    c.has_realm = false;
-    c.has_key = false;
-    let asked = r.asked;
-    let id = r.id;
-    let under = r.under;
-    let mut out = [0u8; 128];
-    let w = turn_packet::write_packet(&mut out, 0, c, asked, id, under);
-    if let Written::Bytes(n) = w {
-        if n <= 128 {
-            attributes(rt, &out[0..n]);
+#[derive(Clone, Copy)]
+struct Granted<'a>(&'a Permissions);
+
+impl fmt::Display for Granted<'_> {
+    fn fmt<W: fmt::Write>(&self, f: &mut fmt::Formatter<W>) -> fmt::Result {
+        for row in &self.0.rows[..self.0.len.min(32)] {
+            let host = Host(Ip::from(row.host));
+            let time = OrDash(row.granted.then_some(row.at));
+            write!(f, "  permission {host} {time}\n")?;
         }
+        Ok(())
     }
 }
 
-fn request(rt: &impl Print, r: Request, c: Credentials) {
-    let id = r.id;
-    let asked = r.asked;
-    form::form(rt, b"  request % ", NONE, &id);
-    kind(rt, asked);
-    form::form(
-        rt,
-        b" tries # next # retried # attrs ",
-        [r.tries as u64, r.next, r.retried as u64, 0, 0],
-        b"",
-    );
-    own(rt, c, r);
-    form::form(rt, b"\n", NONE, b"");
-}
+#[derive(Clone, Copy)]
+struct Bound<'a>(&'a Channels);
 
-fn requests(rt: &impl Print, t: Requests, c: Credentials) {
-    let n = super::least(t.len, 64);
-    let mut i = 0;
-    while i < n {
-        let r = t.rows[i];
-        request(rt, r, c);
-        i += 1;
+impl fmt::Display for Bound<'_> {
+    fn fmt<W: fmt::Write>(&self, f: &mut fmt::Formatter<W>) -> fmt::Result {
+        for row in &self.0.rows[..self.0.len.min(32)] {
+            let place = Place(Address::from(row.peer));
+            let number = row.number;
+            let bound = u8::from(row.bound);
+            let time = row.at;
+            write!(
+                f,
+                "  channel {place} {number} bound {bound} refresh {time}\n"
+            )?;
+        }
+        Ok(())
     }
-}
-
-fn permissions(rt: &impl Print, t: Permissions) {
-    let n = super::least(t.len, 32);
-    let mut i = 0;
-    while i < n {
-        let p = t.rows[i];
-        let h = p.host;
-        host(rt, b"  permission ", h);
-        time(rt, p.granted, p.at);
-        i += 1;
-    }
-}
-
-fn channels(rt: &impl Print, t: Channels) {
-    let n = super::least(t.len, 32);
-    let mut i = 0;
-    while i < n {
-        let c = t.rows[i];
-        let p = c.peer;
-        place(rt, b"  channel ", p);
-        form::form(
-            rt,
-            b" # bound # refresh #\n",
-            [c.number as u64, c.bound as u64, c.at, 0, 0],
-            b"",
-        );
-        i += 1;
-    }
-}
-
-pub fn state(rt: &impl Print, c: Client) {
-    let held = c.credentials;
-    let username = held.username;
-    let password = c.password;
-    text(rt, b"username", true, username);
-    text(rt, b"password", true, password);
-    form::form(rt, b"  reliable #\n", [c.reliable as u64, 0, 0, 0, 0], b"");
-    credentials(rt, held);
-    relay(rt, c);
-    let waiting = c.requests;
-    requests(rt, waiting, held);
-    let granted = c.permissions;
-    permissions(rt, granted);
-    let bound = c.channels;
-    channels(rt, bound);
 }

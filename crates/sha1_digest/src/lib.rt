@@ -1,109 +1,63 @@
-// SHA-1 (RFC 3174), over a message that may come in parts: `new`, then `update` with each part, then
-// `finish`; `digest` for a message in one part. The schedule is seen by nothing outside `step`.
+// SHA-1 (RFC 3174), over a message that may come in parts: `Sha1::new`, then `update` with each part,
+// then `finish`; `digest` for a message in one part. Blocks and the padding of section 4 are in the
+// crate that the digests share; here is the step of section 6.1.
 #![tactic(auto)]
 
-ghost use Rattle.std.specs.Prelude.{◌≡◌, ◌+◌, ◌*◌, ◌<◌, ◌≤◌, length, take, drop};
-ghost use Rattle.digest.specs.Word.{◌⊞◌, rotl};
+ghost use Rattle.std.specs.Prelude.{◌≡◌, refl, ◌+◌, ◌*◌, ◌<◌, ◌≤◌, length, take, drop};
 ghost use Rattle.digest.specs.Bytes.{number, big};
-ghost use Rattle.digest.specs.Running.{fresh, fed, finished};
-ghost use Rattle.digest.specs.Digest.{digest as «digest_of», result as «result_of»};
-ghost use Rattle.sha1_digest.specs.Rfc3174.{sha1, state, f as «f_of», K as «K_of», step as «step_of», schedule as «schedule_of», rounds as «rounds_of», sums as «sums_of»};
-ghost use Rattle.sha1_digest.specs.View.{view, listed, five_rounds};
+ghost use Rattle.digest.specs.Digest.{digest as digest_of};
+ghost use Rattle.sha1_digest.specs.Rfc3174.{sha1, State, state, f as f_of, K as K_of, step as step_of, round as round_of, schedule as schedule_of, rounds as rounds_of, sums as sums_of};
 
-use digest::rotate_left;
-use std::num::{wrapping_add_u32, wrapping_add_u64};
+use digest::{Compression, Hasher};
 
-// The words after the whole blocks so far, how many bytes came, modulo 2^64, and the bytes that wait
-// for their block to be full, with zeros after them.
+// A message that comes in parts.
+pub type Sha1 = Hasher<Rfc3174, [u32; 5]>;
+
+// SHA-1 as a digest of the family.
 #[derive(Clone, Copy)]
-pub struct Sha1 {
-    pub words: [u32; 5],
-    pub count: u64,
-    pub tail: [u8; 64],
-}
+pub struct Rfc3174;
 
-impl Sha1 {
-    pub fn new() -> Self
-        ensures { view result ≡ fresh sha1 }
-    {
-        Self {
-            words: [0x67452301, 0xefcdab89, 0x98badcfe, 0x10325476, 0xc3d2e1f0],
-            count: 0,
-            tail: [0; 64],
-        }
+impl Compression<[u32; 5]> for Rfc3174 {
+    type Output = [u8; 20];
+
+    ghost parameters = { sha1 };
+
+    ghost words = { λ h. h };
+
+    ghost bytes = { λ m. m };
+
+    ghost blocks_of_64 = { refl };
+
+    fn is_big() -> bool {
+        true
     }
 
-    // One more part of the message.
-    pub fn update(self, part: &[u8]) -> Self
-        ensures { view result ≡ fed sha1 (view self) part.now }
-    {
-        let tail = self.tail;
-        let words = self.words;
-        let n = self.count;
-        let at = (n % 64) as usize;
-        let room = 64 - at;
-        let count = wrapping_add_u64(n, part.len() as u64);
-        if part.len() < room {
-            let tail = digest::laid(tail, at, part);
-            return Self { words, count, tail };
-        }
-        let first = digest::laid(tail, at, &part[0..room]);
-        let mut words = step(words, &first);
-        let mut i = room;
-        while 64 <= part.len() - i {
-            let next = step(words, &part[i..i + 64]);
-            words = next;
-            i += 64;
-        }
-        let tail = digest::laid([0; 64], 0, &part[i..]);
-        Self { words, count, tail }
+    fn start() -> [u32; 5] {
+        [0x67452301, 0xefcdab89, 0x98badcfe, 0x10325476, 0xc3d2e1f0]
     }
 
-    // The digest of all that came.
-    #[tactic(auto, using(crate::proofs::Ends::one_block))]
-    pub fn finish(self) -> [u8; 20]
-        ensures { result ≡ finished sha1 (view self) }
-    {
-        let tail = self.tail;
-        let words = self.words;
-        let n = self.count;
-        let at = (n % 64) as usize;
-        let marked = digest::laid(tail, at, &[0x80]);
-        if at < 56 {
-            let last = digest::last_block(marked, n, true);
-            return result(step(words, &last));
-        }
-        let last = digest::last_block([0; 64], n, true);
-        result(step(step(words, &marked), &last))
+    fn step(h: [u32; 5], block: &[u8]) -> [u32; 5] {
+        step(h, block)
+    }
+
+    #[tactic(auto, unfolding(digest::specs::Digest::result))]
+    fn result(h: [u32; 5]) -> [u8; 20] {
+        digest::spelled(h, true)
     }
 }
 
 // The digest of a message in one part.
 pub fn digest(m: &[u8]) -> [u8; 20]
-    ensures { result ≡ «digest_of» sha1 m.now }
+    ensures { result ≡ digest_of sha1 m.now }
 {
-    Sha1::new().update(m).finish()
-}
-
-// The words as bytes.
-fn result(h: [u32; 5]) -> [u8; 20]
-    ensures { result ≡ «result_of» sha1 h }
-{
-    let a = digest::word_bytes(h[0], true);
-    let b = digest::word_bytes(h[1], true);
-    let c = digest::word_bytes(h[2], true);
-    let d = digest::word_bytes(h[3], true);
-    let e = digest::word_bytes(h[4], true);
-    [
-        a[0], a[1], a[2], a[3], b[0], b[1], b[2], b[3], c[0], c[1], c[2], c[3], d[0], d[1], d[2],
-        d[3], e[0], e[1], e[2], e[3],
-    ]
+    Sha1::digest(m)
 }
 
 // Section 6.1: the words after one more block.
+#[tactic(auto, unfolding(crate::specs::Rfc3174::step))]
 fn step(h: [u32; 5], m: &[u8]) -> [u32; 5]
     requires { length m.now ≡ 64 }
-    ensures { result ≡ «step_of» h m.now }
+    ensures { result ≡ step_of h m.now }
 {
     let w = schedule(m);
     sums(h, rounds(h, &w))
@@ -111,43 +65,38 @@ fn step(h: [u32; 5], m: &[u8]) -> [u32; 5]
 
 // Section 6.1 e.
 fn sums(h: [u32; 5], s: [u32; 5]) -> [u32; 5]
-    ensures { result ≡ «sums_of» h (state s) }
+    ensures { result ≡ sums_of h (state s) }
 {
     [
-        wrapping_add_u32(h[0], s[0]),
-        wrapping_add_u32(h[1], s[1]),
-        wrapping_add_u32(h[2], s[2]),
-        wrapping_add_u32(h[3], s[3]),
-        wrapping_add_u32(h[4], s[4]),
+        h[0].wrapping_add(s[0]),
+        h[1].wrapping_add(s[1]),
+        h[2].wrapping_add(s[2]),
+        h[3].wrapping_add(s[3]),
+        h[4].wrapping_add(s[4]),
     ]
 }
 
-// Section 6.1 d, all eighty rounds. Four loops, so that each turn's t is known when it is compiled,
-// and with it which f and K are meant.
+// Section 6.1 d, all eighty rounds, twenty by twenty, so that with T it is known when it is compiled
+// which f and K are meant.
 fn rounds(s: [u32; 5], w: &[u32; 80]) -> [u32; 5]
-    ensures { result ≡ listed («rounds_of» w.now 80 (state s)) }
+    ensures { state result ≡ rounds_of w.now 80 (state s) }
+{
+    let s = twenty::<0>(s, w);
+    let s = twenty::<20>(s, w);
+    let s = twenty::<40>(s, w);
+    twenty::<60>(s, w)
+}
+
+// The rounds T to T + 19. `next`, since a call's result is not laid in an array that it was passed.
+#[tactic(auto, using(crate::proofs::Turn::one_more))]
+fn twenty<const T: usize>(s: [u32; 5], w: &[u32; 80]) -> [u32; 5]
+    requires { T + 20 ≤ 80 }
+    ensures { (h : State) → state s ≡ rounds_of w.now T h → state result ≡ rounds_of w.now (T + 20) h }
 {
     let mut s = s;
-    let mut t = 0;
-    while t < 20 {
-        let next = five(s, w, t);
+    for t in T..T + 20 {
+        let next = round(s, w, t);
         s = next;
-        t += 5;
-    }
-    while t < 40 {
-        let next = five(s, w, t);
-        s = next;
-        t += 5;
-    }
-    while t < 60 {
-        let next = five(s, w, t);
-        s = next;
-        t += 5;
-    }
-    while t < 80 {
-        let next = five(s, w, t);
-        s = next;
-        t += 5;
     }
     s
 }
@@ -155,17 +104,14 @@ fn rounds(s: [u32; 5], w: &[u32; 80]) -> [u32; 5]
 // Section 6.1 a and b: the words W(0), .., W(79).
 fn schedule(m: &[u8]) -> [u32; 80]
     requires { length m.now ≡ 64 }
-    ensures { result ≡ «schedule_of» m.now }
+    ensures { result ≡ schedule_of m.now }
 {
     let mut w = [0u32; 80];
-    let mut t = 0;
-    while t < 16 {
+    for t in 0..16 {
         w[t] = word(m, 4 * t);
-        t += 1;
     }
-    while t < 80 {
-        w[t] = rotate_left(w[t - 3] ^ w[t - 8] ^ w[t - 14] ^ w[t - 16], 1);
-        t += 1;
+    for t in 16..80 {
+        w[t] = (w[t - 3] ^ w[t - 8] ^ w[t - 14] ^ w[t - 16]).rotate_left(1);
     }
     w
 }
@@ -177,40 +123,26 @@ fn word(m: &[u8], at: usize) -> u32
     digest::joined(m[at + 3], m[at + 2], m[at + 1], m[at])
 }
 
-// Section 6.1 d, the rounds t to t + 4: after five of them each word stands in its own place again.
-fn five(s: [u32; 5], w: &[u32; 80], t: usize) -> [u32; 5]
-    requires { t + 5 ≤ 80 }
-    ensures { result ≡ listed (five_rounds w.now t (state s)) }
+// Section 6.1 d, the round t: TEMP = S^5(A) + f(t;B,C,D) + E + W(t) + K(t).
+#[tactic(auto, unfolding(crate::specs::Rfc3174::round))]
+fn round(s: [u32; 5], w: &[u32; 80], t: usize) -> [u32; 5]
+    requires { t < 80 }
+    ensures { state result ≡ round_of w.now t (state s) }
 {
-    let mut a = s[0];
-    let mut b = s[1];
-    let mut c = s[2];
-    let mut d = s[3];
-    let mut e = s[4];
-    e = temp(t, a, b, c, d, e, w[t]);
-    b = rotate_left(b, 30);
-    d = temp(t + 1, e, a, b, c, d, w[t + 1]);
-    a = rotate_left(a, 30);
-    c = temp(t + 2, d, e, a, b, c, w[t + 2]);
-    e = rotate_left(e, 30);
-    b = temp(t + 3, c, d, e, a, b, w[t + 3]);
-    d = rotate_left(d, 30);
-    a = temp(t + 4, b, c, d, e, a, w[t + 4]);
-    c = rotate_left(c, 30);
-    [a, b, c, d, e]
-}
-
-// TEMP = S^5(A) + f(t;B,C,D) + E + W(t) + K(t)
-fn temp(t: usize, a: u32, b: u32, c: u32, d: u32, e: u32, w: u32) -> u32
-    ensures { result ≡ rotl 5 a ⊞ «f_of» t b c d ⊞ e ⊞ w ⊞ «K_of» t }
-{
-    let sum = wrapping_add_u32(rotate_left(a, 5), f(t, b, c, d));
-    wrapping_add_u32(wrapping_add_u32(wrapping_add_u32(sum, e), w), k(t))
+    let [a, b, c, d, e] = s;
+    let temp = a
+        .rotate_left(5)
+        .wrapping_add(f(t, b, c, d))
+        .wrapping_add(e)
+        .wrapping_add(w[t])
+        .wrapping_add(k(t));
+    [temp, a, b.rotate_left(30), c, d]
 }
 
 // f(t;B,C,D) of section 5: choose and majority in one operation less than the RFC writes them with.
+#[tactic(auto, unfolding(crate::specs::Rfc3174::f))]
 fn f(t: usize, b: u32, c: u32, d: u32) -> u32
-    ensures { result ≡ «f_of» t b c d }
+    ensures { result ≡ f_of t b c d }
 {
     if t < 20 {
         return d ^ (b & (c ^ d));
@@ -225,8 +157,9 @@ fn f(t: usize, b: u32, c: u32, d: u32) -> u32
 }
 
 // K(t) of section 5.
+#[tactic(auto, unfolding(crate::specs::Rfc3174::K))]
 fn k(t: usize) -> u32
-    ensures { result ≡ «K_of» t }
+    ensures { result ≡ K_of t }
 {
     if t < 20 {
         return 0x5a827999;

@@ -5,15 +5,12 @@ use mathlib.Core.List.{List, [], ◌∷◌, ◌++◌}
 use Prim.Native.Nat.{ℕ}
 use lib.ListN.{take, replicate}
 use Rattle.stun_frame.specs.declared.classes.Class.TheVariants.{Indication, Success, Error}
-use Rattle.stun_frame.specs.declared.Channel.TheVariants.{Data, Nothing}
-use Rattle.stun_frame.specs.declared.Written.TheVariants.{Bytes}
+use Rattle.std.specs.Prelude.{Some, None, Ok}
 use Rattle.stun_frame.specs.declared.Frame.TheVariants.{Incomplete, Whole, Corrupt}
 use Rattle.stun_frame.specs.Source.{class, is_stun, is_channel_data, encode_channel_data, decode_channel_data, written, number_of, stream_frame_len}
 use Rattle.stun_address.specs.declared.Address.{Address}
 use Rattle.stun_address.specs.declared.Ip.TheVariants.{V4, V6}
-use Rattle.stun_address.specs.declared.Peer.TheVariants.{At, Nothing as NoPeer}
 use Rattle.stun_address.specs.Source.{encode_xor_addr, decode_xor_addr}
-use Rattle.stun_walk.specs.declared.Code.TheVariants.{Error as Code, NoCode}
 use Rattle.stun_walk.specs.Source.{attributes_from, readable, get_of, error_code_of}
 use Rattle.stun_text.specs.Utf8.{sequence, subpart, parts, replaced}
 
@@ -28,12 +25,12 @@ written_v4 : (id : List ℕ) → encode_xor_addr first id ≡ first_bytes
 unfolding encode_xor_addr
 written_v4 id = refl
 
-read_v4 : (id : List ℕ) → decode_xor_addr first_bytes id ≡ At first
+read_v4 : (id : List ℕ) → decode_xor_addr first_bytes id ≡ Some first
 unfolding decode_xor_addr
 read_v4 id = refl
 
 -- one byte less
-cut_v4 : (id : List ℕ) → decode_xor_addr (take 7 first_bytes) id ≡ NoPeer
+cut_v4 : (id : List ℕ) → decode_xor_addr (take 7 first_bytes) id ≡ None
 unfolding decode_xor_addr
 cut_v4 id = refl
 
@@ -77,16 +74,16 @@ abbrev refused_with : List ℕ → List ℕ
 refused_with bytes =
     (0x01 ∷ 0x13 ∷ 0x00 ∷ 0x08 ∷ 0x21 ∷ 0x12 ∷ 0xA4 ∷ 0x42 ∷ []) ++ replicate 12 0 ++ (0x00 ∷ 0x09 ∷ 0x00 ∷ 0x04 ∷ []) ++ bytes
 
-four_one : error_code_of (refused_with (0x00 ∷ 0x00 ∷ 0x04 ∷ 0x01 ∷ [])) ≡ Code 401
+four_one : error_code_of (refused_with (0x00 ∷ 0x00 ∷ 0x04 ∷ 0x01 ∷ [])) ≡ Some 401
 unfolding error_code_of get_of readable attributes_from is_stun
 four_one = refl
 
-three_hundred_one : error_code_of (refused_with (0x00 ∷ 0x00 ∷ 0x03 ∷ 0x65 ∷ [])) ≡ Code 401
+three_hundred_one : error_code_of (refused_with (0x00 ∷ 0x00 ∷ 0x03 ∷ 0x65 ∷ [])) ≡ Some 401
 unfolding error_code_of get_of readable attributes_from is_stun
 three_hundred_one = refl
 
 -- its other side: one byte less, and nothing is read
-one_less : error_code_of (refused_with (0x00 ∷ 0x00 ∷ 0x04 ∷ [])) ≡ NoCode
+one_less : error_code_of (refused_with (0x00 ∷ 0x00 ∷ 0x04 ∷ [])) ≡ None
 unfolding error_code_of get_of readable attributes_from is_stun
 one_less = refl
 
@@ -118,16 +115,16 @@ unfolding replaced parts sequence subpart
 ended = refl
 
 -- the data of case 2 needs no padding, and not less than all of it
-unpadded : decode_channel_data (take 7 sent) ≡ Data 0x4000 4 3
+unpadded : decode_channel_data (take 7 sent) ≡ Some (record { number = 0x4000; start = 4; len = 3 })
 unfolding decode_channel_data is_channel_data
 unpadded = refl
 
-cut : decode_channel_data (take 6 sent) ≡ Nothing
+cut : decode_channel_data (take 6 sent) ≡ None
 unfolding decode_channel_data is_channel_data
 cut = refl
 
 -- its room: 8 bytes do, 7 do not
-room : written 0x4000 hi (replicate 8 0) ≡ Bytes 8
+room : written 0x4000 hi (replicate 8 0) ≡ Ok 8
 unfolding written encode_channel_data
 room = refl
 
@@ -150,11 +147,11 @@ written_v6 : encode_xor_addr second transaction ≡ second_bytes
 unfolding encode_xor_addr
 written_v6 = refl
 
-read_v6 : decode_xor_addr second_bytes transaction ≡ At second
+read_v6 : decode_xor_addr second_bytes transaction ≡ Some second
 unfolding decode_xor_addr
 read_v6 = refl
 
 -- one byte less
-cut_v6 : decode_xor_addr (take 19 second_bytes) transaction ≡ NoPeer
+cut_v6 : decode_xor_addr (take 19 second_bytes) transaction ≡ None
 unfolding decode_xor_addr
 cut_v6 = refl

@@ -7,7 +7,8 @@ use mathlib.Core.Bool.{Bool, true}
 use lib.ListN.{length, length-append}
 use Rattle.digest.specs.Hmac.{hmac}
 use Rattle.sha1_digest.specs.Rfc3174.{sha1}
-use Rattle.stun_walk.specs.Rfc.{Part, body, nothing, value_of}
+use Rattle.stun_walk.specs.Rfc.{Part, body, value_of}
+use Rattle.std.specs.Prelude.{None}
 use Rattle.stun_check.specs.Source.{verified}
 use Rattle.stun_write.specs.Source.{Attribute, signed, attributes, header, encoded, integrity}
 use Rattle.stun_write.specs.Rfc.{up_to}
@@ -18,7 +19,7 @@ use Rattle.stun.proofs.Trip.{Writable, written, marked, sent, sent_body, well_fo
 use Rattle.stun.proofs.Signed.{signed_passes}
 
 module _ (typ : ℕ) (id : List ℕ) (attrs : List Attribute) (key : List ℕ) (f : Bool) (w : Writable typ id attrs (signed key) f)
-    (u : value_of 0x0008 (map sent attrs) ≡ nothing) where
+    (u : value_of 0x0008 (map sent attrs) ≡ None) where
   abbrev message : List ℕ
   message = encoded typ id (attributes attrs) (signed key) f
 

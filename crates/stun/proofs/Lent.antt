@@ -1,4 +1,4 @@
--- The same for the room that `encode` and `seal` leave: where they answer `Bytes n`, the room reads as the message (`left_reads`), and
+-- The same for the room that `encode` and `seal` leave: where they answer `Ok n`, the room reads as the message (`left_reads`), and
 -- the check passes on its first n bytes (`left_passes`).
 use mathlib.Core.Path.{◌≡◌, sym, ap, subst, ◌∙◌}
 use Prim.Native.Nat.{ℕ, ◌+◌, ◌^◌, ◌<◌}
@@ -7,9 +7,10 @@ use mathlib.Core.List.{List, ◌++◌, map}
 use mathlib.Core.Bool.{Bool, true}
 use lib.ListN.{length, take, drop, length-append}
 use lib.Seq.{take_at}
-use Rattle.stun_frame.specs.declared.Written.TheVariants.{Bytes}
+use Rattle.std.specs.Prelude.{Ok}
 use Rattle.stun_check.specs.Source.{verified}
-use Rattle.stun_walk.specs.Rfc.{nothing, value_of}
+use Rattle.stun_walk.specs.Rfc.{value_of}
+use Rattle.std.specs.Prelude.{None}
 use Rattle.stun_walk.proofs.Message.{Reads}
 use Rattle.stun_write.specs.Source.{Attribute, key_of, attributes, encoded, sealed_body, integrity, fingerprint, Encoded}
 use Rattle.stun_write.proofs.Lengths.{length-integrity, length-fingerprint, length-encoded}
@@ -20,7 +21,7 @@ use Rattle.stun.proofs.Check.{passes}
 module _ (typ : ℕ) (id : List ℕ) (attrs : List Attribute) (key : List ℕ) (f : Bool) (top : typ < 2 ^ 14) (ided : length id ≡ 12) (fit : AllFit attrs)
     (out after : List ℕ) (n : ℕ) where
   -- an answer `Bytes` says that the length field holds the length
-  pub writable : (sign : Bool) → Encoded out typ id (attributes attrs) key sign f (Bytes n) after → Writable typ id attrs (key_of sign key) f
+  pub writable : (sign : Bool) → Encoded out typ id (attributes attrs) key sign f (Ok n) after → Writable typ id attrs (key_of sign key) f
   writable sign w =
       let b : List ℕ = attributes attrs in
       let i : List ℕ = integrity typ id b (key_of sign key) in
@@ -28,13 +29,13 @@ module _ (typ : ℕ) (id : List ℕ) (attrs : List Attribute) (key : List ℕ) (
       let s = (was_written w).0 in
       record { top = top; ided = ided; fit = fit; room = omega (arith, length-integrity typ id sign key b, length-fingerprint typ id f (b ++ i)) }
 
-  pub left_reads : (sign : Bool) (w : Encoded out typ id (attributes attrs) key sign f (Bytes n) after)
+  pub left_reads : (sign : Bool) (w : Encoded out typ id (attributes attrs) key sign f (Ok n) after)
       → Reads after typ id (parts typ id attrs (key_of sign key) f (writable sign w))
   left_reads sign w =
       subst (λ (m : List ℕ). Reads m typ id (parts typ id attrs (key_of sign key) f (writable sign w))) (sym (was_written w).2)
       (trip typ id attrs (key_of sign key) f (writable sign w) (drop n out))
 
-  pub left_passes : Encoded out typ id (attributes attrs) key true f (Bytes n) after → value_of 0x0008 (map sent attrs) ≡ nothing → verified (take n after) key ≡ true
+  pub left_passes : Encoded out typ id (attributes attrs) key true f (Ok n) after → value_of 0x0008 (map sent attrs) ≡ None → verified (take n after) key ≡ true
   left_passes w u =
       let m : List ℕ = encoded typ id (attributes attrs) (key_of true key) f in
       let l : length m ≡ n = length-encoded typ id (attributes attrs) key true f ided ∙ sym (was_written w).1 in

@@ -18,9 +18,9 @@ use Rattle.lists.proofs.Elements.{take_four}
 use Rattle.stun_frame.specs.Source.{field_at, is_stun}
 use Rattle.stun_frame.specs.Rfc.{two}
 use Rattle.stun_address.proofs.Network.{Bytes}
-use Rattle.stun_walk.specs.declared.Found.TheVariants.{At}
+use Rattle.std.specs.Prelude.{Some}
 use Rattle.stun_walk.specs.Source.{Attribute as Placed, attributes_from, attributes, inside, padded, readable, first, get_of}
-use Rattle.stun_walk.specs.Rfc.{Part, AllFormed, body, just, value_of}
+use Rattle.stun_walk.specs.Rfc.{Part, AllFormed, body, value_of}
 use Rattle.stun_walk.proofs.Reading.{Meaning, seen, meant}
 use Rattle.stun_walk.proofs.Message.{Reads, looked}
 use Rattle.stun_walk.proofs.Values.{decoded_some}
@@ -94,8 +94,8 @@ stepped b n p to a more step value room r =
     }
   where
     pick : (t : ℕ) (q : Bool)
-        → looked b (cond q (At (p + 4) (length a.value)) (first t (attributes_from n b to))) ≡ cond q (just a.value) (value_of t more)
-    pick t true = ap just value
+        → looked b (cond q (Some (record { start = p + 4; len = length a.value })) (first t (attributes_from n b to))) ≡ cond q (Some a.value) (value_of t more)
+    pick t true = ap Some value
     pick t false = r.firsts t
 
 module _ (b : List ℕ) (fits : 20 + field_at b 2 ≤ length b) where
@@ -400,11 +400,11 @@ no_multiple = refl
 abbrev one : List ℕ
 one = 0x00 ∷ 0x06 ∷ 0x00 ∷ 0x01 ∷ 0x41 ∷ []
 
-no_padding : looked (behind 5 one) (get_of (behind 5 one) 6) ≡ just (0x41 ∷ [])
+no_padding : looked (behind 5 one) (get_of (behind 5 one) 6) ≡ Some (0x41 ∷ [])
 unfolding get_of readable attributes_from is_stun
 no_padding = refl
 
-value_past : looked (behind 4 one) (get_of (behind 4 one) 6) ≡ just (0x41 ∷ [])
+value_past : looked (behind 4 one) (get_of (behind 4 one) 6) ≡ Some (0x41 ∷ [])
 unfolding get_of readable attributes_from is_stun
 value_past = refl
 

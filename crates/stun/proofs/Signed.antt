@@ -13,7 +13,8 @@ use lib.Seq.{take_at, drop_at}
 use Rattle.digest.specs.Hmac.{hmac}
 use Rattle.sha1_digest.specs.Rfc3174.{sha1}
 use Rattle.stun_frame.specs.Rfc.{two, StunParts, stun_message}
-use Rattle.stun_walk.specs.Rfc.{Part, AllFormed, body, Maybe, nothing, just, value_of}
+use Rattle.stun_walk.specs.Rfc.{Part, AllFormed, body, value_of}
+use Rattle.std.specs.Prelude.{Option, None, Some}
 use Rattle.stun_walk.proofs.Reading.{past, typ_at, len_at, length-past, past_is}
 use Rattle.stun_check.specs.Source.{integrity_from, integrity_at, verified, covered, same, u16_at, padded}
 use Rattle.stun_write.specs.Source.{header}
@@ -46,7 +47,7 @@ formed_split [] b f = (tt, f)
 formed_split (x ∷ a) b f = let r = formed_split a b f.1 in ((f.0, r.0), r.1)
 
 -- the first attribute is not of the type, and none of the others
-missed : (q : Bool) (v : List ℕ) (rest : Maybe) → cond q (just v) rest ≡ nothing → (q ≡ false) × (rest ≡ nothing)
+missed : (q : Bool) (v : List ℕ) (rest : Option (List ℕ)) → cond q (Some v) rest ≡ None → (q ≡ false) × (rest ≡ None)
 missed false v rest e = (refl, e)
 missed true v rest e = absurd (let z : ◌≡◌ {A = ℕ} 0 1 = cc in omega arith)
 
@@ -61,7 +62,7 @@ onward {b} step lt r e =
     record { fuel = r.fuel; enough = omega (arith, r.enough); finds = step ∙ r.finds ∙ ap (integrity_from r.fuel b) e }
 
 -- where the attributes between them are no MESSAGE-INTEGRITY
-passed : (before : List Part) (b pre after : List ℕ) (n : ℕ) → value_of 8 before ≡ nothing → AllFormed before → b ≡ pre ++ (body before ++ after)
+passed : (before : List Part) (b pre after : List ℕ) (n : ℕ) → value_of 8 before ≡ None → AllFormed before → b ≡ pre ++ (body before ++ after)
     → length pre + length (body before) ≤ 20 + u16_at b 2 → length (body before) ≤ n → Passed b n (length pre) (length pre + length (body before))
 unfolding integrity_from
 passed [] b pre after n u f is end enough = record { fuel = n; enough = omega arith; finds = ap (integrity_from n b) (omega arith) }
@@ -100,7 +101,7 @@ module _ (typ : ℕ) (id rest : List ℕ) (parts : List Part) (good : StunParts 
   is = simp append_assoc
 
   -- without a MESSAGE-INTEGRITY the search ends behind the last attribute
-  none : value_of 8 parts ≡ nothing → integrity_at bytes_of ≡ length bytes_of
+  none : value_of 8 parts ≡ None → integrity_at bytes_of ≡ length bytes_of
   unfolding integrity_from
   none u =
       let r = passed parts bytes_of front rest (length bytes_of) u formed is (omega (arith, twenty, counted)) (omega (arith, long)) in
@@ -110,12 +111,12 @@ module _ (typ : ℕ) (id rest : List ℕ) (parts : List Part) (good : StunParts 
       stop zero = refl
       stop (suc k) = rw (lt-leb (length front + length (body parts) + 4) (20 + u16_at bytes_of 2) (omega (arith, twenty, counted)))
 
-  fails : (key : List ℕ) → value_of 8 parts ≡ nothing → verified bytes_of key ≡ false
+  fails : (key : List ℕ) → value_of 8 parts ≡ None → verified bytes_of key ≡ false
   unfolding verified
   fails key u = rw (none u, lt-ltb (length bytes_of) (length bytes_of + 24) (omega arith))
 
   -- with one, `mine` the first
-  module _ (before : List Part) (mine : Part) (after : List Part) (split : parts ≡ before ++ (mine ∷ after)) (u : value_of 8 before ≡ nothing) (t : mine.typ ≡ 8)
+  module _ (before : List Part) (mine : Part) (after : List Part) (split : parts ≡ before ++ (mine ∷ after)) (u : value_of 8 before ≡ None) (t : mine.typ ≡ 8)
       (n : length mine.value ≡ 20) where
     abbrev place : List ℕ
     place = front ++ body before
@@ -184,15 +185,15 @@ record Cut (t : ℕ) (parts : List Part) (v : List ℕ) : Type 0 where
   mine : Part
   after : List Part
   split : parts ≡ before ++ (mine ∷ after)
-  first : value_of t before ≡ nothing
+  first : value_of t before ≡ None
   typed : mine.typ ≡ t
   valued : mine.value ≡ v
 
-cut : (t : ℕ) (parts : List Part) (v : List ℕ) → value_of t parts ≡ just v → Cut t parts v
+cut : (t : ℕ) (parts : List Part) (v : List ℕ) → value_of t parts ≡ Some v → Cut t parts v
 cut t [] v e = absurd (let z : ◌≡◌ {A = ℕ} 0 1 = cc in omega arith)
 cut t (a ∷ more) v e = go (eqb a.typ t) refl e (cut t more v)
   where
-    go : (q : Bool) → eqb a.typ t ≡ q → cond q (just a.value) (value_of t more) ≡ just v → (value_of t more ≡ just v → Cut t more v) → Cut t (a ∷ more) v
+    go : (q : Bool) → eqb a.typ t ≡ q → cond q (Some a.value) (value_of t more) ≡ Some v → (value_of t more ≡ Some v → Cut t more v) → Cut t (a ∷ more) v
     go true q i rest = record { before = []; mine = a; after = more; split = refl; first = refl; typed = eqb-true a.typ t q; valued = cc }
     go false q i rest =
         let c : Cut t more v = rest i in
@@ -215,7 +216,7 @@ signed_passes {key} {m} s rest =
     ∙ same_is _ _ s.code
 
 module _ {m : List ℕ} {typ : ℕ} {id : List ℕ} {parts : List Part} (w : WellFormed m typ id parts) (key rest : List ℕ) where
-  pub passes_signed : {v : List ℕ} → value_of 0x0008 parts ≡ just v → length v ≡ 20 → verified (m ++ rest) key ≡ true → Signed key m
+  pub passes_signed : {v : List ℕ} → value_of 0x0008 parts ≡ Some v → length v ≡ 20 → verified (m ++ rest) key ≡ true → Signed key m
   passes_signed {v} e n p =
       let c : Cut 8 parts v = cut 8 parts v e in
       let l : length c.mine.value ≡ 20 = ap length c.valued ∙ n in
@@ -233,5 +234,5 @@ module _ {m : List ℕ} {typ : ℕ} {id : List ℕ} {parts : List Part} (w : Wel
         code = sym (same_true _ _ (sym q ∙ ap (λ (l : List ℕ). verified (l ++ rest) key) (sym w.whole) ∙ p));
       }
 
-  pub unsigned_fails : value_of 0x0008 parts ≡ nothing → verified (m ++ rest) key ≡ false
+  pub unsigned_fails : value_of 0x0008 parts ≡ None → verified (m ++ rest) key ≡ false
   unsigned_fails u = ap (λ (l : List ℕ). verified (l ++ rest) key) w.whole ∙ fails typ id rest parts w.header w.attributes key u

@@ -3,7 +3,8 @@
 use Rattle.std.specs.Prelude.{◌≡◌, List, [], ◌∷◌, ◌++◌, ℕ, length}
 use Rattle.digest.specs.Hmac.{hmac}
 use Rattle.sha1_digest.specs.Rfc3174.{sha1}
-use Rattle.stun_walk.specs.Rfc.{Part, body, nothing, value_of}
+use Rattle.stun_walk.specs.Rfc.{Part, body, value_of}
+use Rattle.std.specs.Prelude.{None}
 use Rattle.stun_write.specs.Rfc.{up_to}
 use Rattle.stun.specs.Rfc.{WellFormed}
 
@@ -15,7 +16,7 @@ pub record Signed (key m : List ℕ) : Type 0 where
   pub after : List Part
   pub message : WellFormed m typ id (before ++ (mine ∷ after))
   -- `mine` is its first MESSAGE-INTEGRITY
-  pub first : value_of 0x0008 before ≡ nothing
+  pub first : value_of 0x0008 before ≡ None
   pub typed : mine.typ ≡ 0x0008
   -- its value is an HMAC-SHA1, so 20 bytes
   pub twenty : length mine.value ≡ 20

@@ -1,24 +1,48 @@
 -- The definitions over lists whose elements are written out, as the code reads and writes them.
-use mathlib.Core.Path.{◌≡◌, sym, ap, ap₂, ◌∙◌}
-use mathlib.Core.List.{List, [], ◌∷◌, ◌++◌}
-use Prim.Native.Nat.{ℕ, ◌+◌, ◌*◌, ◌^◌, ◌<◌}
+use mathlib.Core.Path.{◌≡◌, refl, sym, ap, ap₂, ◌∙◌}
+use mathlib.Core.List.{List, ◌∷◌, ◌++◌}
+use Prim.Native.Nat.{ℕ, zero, suc, ◌<◌}
 use native.Mathlib.Omega.{arith}
-use lib.ListN.{length}
+use lib.Dec.{lit<}
+use lib.ListN.{length, get_or}
+use Rattle.std.specs.Int.{w16, w32, w64, from_be_bytes}
+use Rattle.std.proofs.lemmas.Nat.{be_bytes_2, be_bytes_4, be_bytes_8}
 use Rattle.lists.proofs.Elements.{elements, drop-elements}
 use Rattle.stun_address.specs.Source.{to_be, key}
-use Rattle.stun_address.proofs.Network.{to_from, to_be_append}
+use Rattle.stun_address.proofs.Network.{library_bytes}
 
-pub two_joined : (a b : ℕ) → a < 256 → b < 256 → to_be 2 (a * 256 + b) ≡ a ∷ b ∷ []
-two_joined a b p q = ap (to_be 2) (omega arith) ∙ to_from (a ∷ b ∷ []) (p, (q, tt))
+-- every element of a list, wherever one looks, is a byte
+abbrev pub Octets : List ℕ → Type 0
+Octets l = (i : ℕ) → get_or l i 0 < 256
 
-pub four_joined : (a b c d : ℕ) → a < 256 → b < 256 → c < 256 → d < 256
-    → to_be 4 (a * 16777216 + b * 65536 + c * 256 + d) ≡ a ∷ b ∷ c ∷ d ∷ []
-four_joined a b c d p q r s = ap (to_be 4) (omega arith) ∙ to_from (a ∷ b ∷ c ∷ d ∷ []) (p, (q, (r, (s, tt))))
+pub element_octets : (l : List ℕ) (k n : ℕ) → Octets l → Octets (elements l k n)
+element_octets l k zero h i = lit< tt
+element_octets l k (suc n) h zero = h k
+element_octets l k (suc n) h (suc i) = element_octets l (suc k) n h i
 
-pub eight_joined : (x y : ℕ) (a b : List ℕ) → y < 2 ^ 32 → to_be 4 x ≡ a → to_be 4 y ≡ b → to_be 8 (x * 4294967296 + y) ≡ a ++ b
-eight_joined x y a b h p q = to_be_append 4 4 x y h ∙ ap₂ {C = List ℕ} (λ u v. u ++ v) p q
+cookie_octets : (l : List ℕ) → Octets l → Octets (0x21 ∷ 0x12 ∷ 0xA4 ∷ 0x42 ∷ l)
+cookie_octets l h zero = lit< tt
+cookie_octets l h (suc zero) = lit< tt
+cookie_octets l h (suc (suc zero)) = lit< tt
+cookie_octets l h (suc (suc (suc zero))) = lit< tt
+cookie_octets l h (suc (suc (suc (suc i)))) = h i
+
+-- a number that was read has the bytes that it was read from
+module _ (l : List ℕ) (x : ℕ) (h : Octets l) where
+  pub read_2 : length l ≡ 2 → x ≡ from_be_bytes w16 l → to_be 2 x ≡ l
+  read_2 n e = sym (library_bytes 2 x) ∙ be_bytes_2 l x n h e
+
+  pub read_4 : length l ≡ 4 → x ≡ from_be_bytes w32 l → to_be 4 x ≡ l
+  read_4 n e = sym (library_bytes 4 x) ∙ be_bytes_4 l x n h e
+
+  pub read_8 : length l ≡ 8 → x ≡ from_be_bytes w64 l → to_be 8 x ≡ l
+  read_8 n e = sym (library_bytes 8 x) ∙ be_bytes_8 l x n h e
 
 -- the key from its 16 bytes
-pub key_elements : (id : List ℕ) (x y : ℕ) → length id ≡ 12 → to_be 8 x ≡ 0x21 ∷ 0x12 ∷ 0xA4 ∷ 0x42 ∷ elements id 0 4 → to_be 8 y ≡ elements id 4 8
-    → to_be 8 x ++ to_be 8 y ≡ key id
-key_elements id x y n p q = ap₂ {C = List ℕ} (λ u v. u ++ v) p q ∙ ap (λ (r : List ℕ). to_be 4 0x2112A442 ++ r) (sym (drop-elements id 0 12 (omega arith)))
+pub key_read : (id : List ℕ) (x y : ℕ) → length id ≡ 12 → Octets id → x ≡ from_be_bytes w64 (0x21 ∷ 0x12 ∷ 0xA4 ∷ 0x42 ∷ elements id 0 4)
+    → y ≡ from_be_bytes w64 (elements id 4 8) → to_be 8 x ++ to_be 8 y ≡ key id
+key_read id x y n h p q =
+    ap₂ {C = List ℕ} (λ u v. u ++ v)
+    (read_8 (0x21 ∷ 0x12 ∷ 0xA4 ∷ 0x42 ∷ elements id 0 4) x (cookie_octets (elements id 0 4) (element_octets id 0 4 h)) refl p)
+    (read_8 (elements id 4 8) y (element_octets id 4 8 h) refl q)
+    ∙ ap (λ (r : List ℕ). to_be 4 0x2112A442 ++ r) (sym (drop-elements id 0 12 (omega arith)))

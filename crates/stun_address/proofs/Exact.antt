@@ -13,13 +13,12 @@ use lib.Seq.{length-take-le}
 use lib.Bits.{bit_xor, xor_lt}
 use Rattle.stun_address.specs.declared.Ip.TheVariants.{V4}
 use Rattle.stun_address.specs.declared.Address.{Address}
-use Rattle.stun_address.specs.declared.Peer.{Peer}
-use Rattle.stun_address.specs.declared.Peer.TheVariants.{At, Nothing}
+use Rattle.std.specs.Prelude.{Option, Some, None}
 use Rattle.stun_address.specs.Source.{to_be, from_be, MAGIC, key, xored, xor_port, octets, of_octets, at_port, decode_xor_addr}
 use Rattle.stun_address.specs.Rfc.{network, x_address, value, size, Held}
-use Rattle.stun_address.proofs.Network.{Bytes, to_from, from_be_less}
+use Rattle.stun_address.proofs.Network.{Bytes, network_is, to_from, from_be_less}
 use Rattle.stun_address.proofs.Cancel.{cancel, xored_cancel, length-xored}
-use Rattle.stun_address.proofs.Values.{network_is, ip_is}
+use Rattle.stun_address.proofs.Values.{ip_is}
 
 bytes_drop : (n : ℕ) (l : List ℕ) → Bytes l → Bytes (drop n l)
 bytes_drop zero l h = h
@@ -45,12 +44,12 @@ back n l e h = ap (λ (k : ℕ). to_be k (from_be l)) (sym e) ∙ to_from l h
 bounded : (n : ℕ) (l : List ℕ) → length l ≡ n → Bytes l → from_be l < 256 ^ n
 bounded n l e h = let p : 256 ^ length l ≡ 256 ^ n = ap (λ (k : ℕ). 256 ^ k) e in omega (arith, from_be_less l h)
 
-nothing_at : {x : Address} → Nothing ≡ At x → ⊥
+nothing_at : {x : Address} → None ≡ Some x → ⊥
 nothing_at e = let z : ◌≡◌ {A = ℕ} 0 1 = cc in omega arith
 
 -- which test let an address out
-pick : (t u w : Bool) (a b : Peer) (x : Address) → cond t Nothing (cond u a (cond w b Nothing)) ≡ At x
-    → (t ≡ false) × (((u ≡ true) × (a ≡ At x)) ⊎ ((w ≡ true) × (b ≡ At x)))
+pick : (t u w : Bool) (a b : Option Address) (x : Address) → cond t None (cond u a (cond w b None)) ≡ Some x
+    → (t ≡ false) × (((u ≡ true) × (a ≡ Some x)) ⊎ ((w ≡ true) × (b ≡ Some x)))
 pick true u w a b x e = absurd (nothing_at e)
 pick false true w a b x e = (refl, inl (refl, e))
 pick false false true a b x e = (refl, inr (refl, e))
@@ -108,10 +107,10 @@ module _ (a p q : ℕ) (r id : List ℕ) (bp : p < 256) (bq : q < 256) (br : Byt
       sym (xored_cancel (take 16 r) (key id) (omega arith)) ∙ ap (λ (l : List ℕ). xored l (key id)) (sym e) ∙ ip_is (of_octets o) id n bi (hh, hl) in
       record { held = record { ip_fits = (hh, hl); port_fits = port_less }; whole = joined 2 16 _ g }
 
-at_same : {x y : Address} → At x ≡ At y → x ≡ y
+at_same : {x y : Address} → Some x ≡ Some y → x ≡ y
 at_same e = cc
 
-pub value_only : (v id : List ℕ) (addr : Address) → Bytes v → length id ≡ 12 → Bytes id → decode_xor_addr v id ≡ At addr → Formed v id addr
+pub value_only : (v id : List ℕ) (addr : Address) → Bytes v → length id ≡ 12 → Bytes id → decode_xor_addr v id ≡ Some addr → Formed v id addr
 unfolding decode_xor_addr
 value_only [] id addr b n i e = absurd (nothing_at e)
 value_only (a ∷ []) id addr b n i e = absurd (nothing_at e)
@@ -123,8 +122,8 @@ value_only (a ∷ f ∷ p ∷ q ∷ r) id addr b n i e =
     v : List ℕ
     v = a ∷ f ∷ p ∷ q ∷ r
 
-    settle : (ltb (length v) 8 ≡ false) × (((eqb f 1 ≡ true) × (at_port v (V4 (bit_xor (from_be (take 4 r)) MAGIC)) ≡ At addr))
-        ⊎ (((eqb f 2 && leb 20 (length v)) ≡ true) × (at_port v (of_octets (xored (take 16 r) (key id))) ≡ At addr))) → Formed v id addr
+    settle : (ltb (length v) 8 ≡ false) × (((eqb f 1 ≡ true) × (at_port v (V4 (bit_xor (from_be (take 4 r)) MAGIC)) ≡ Some addr))
+        ⊎ (((eqb f 2 && leb 20 (length v)) ≡ true) × (at_port v (of_octets (xored (take 16 r) (key id))) ≡ Some addr))) → Formed v id addr
     settle (t, inl (u, g)) =
         subst (λ (x : Address). Formed v id x) (at_same g)
         (subst (λ (y : ℕ). Formed (a ∷ y ∷ p ∷ q ∷ r) id (record { ip = V4 (bit_xor (from_be (take 4 r)) MAGIC); port = xor_port (from_be (p ∷ q ∷ [])) }))

@@ -1,15 +1,17 @@
--- Numbers in network byte order: their bytes and back (`from_to`, `to_from`), a number of two parts (`to_be_append`), and XOR
--- byte by byte (`to_be_xor`).
+-- Numbers in network byte order: their bytes and back (`from_to`, `to_from`), a number of two parts (`to_be_append`), XOR byte by byte
+-- (`to_be_xor`), and that the RFC's bytes and the library's are the source's (`network_is`, `library_bytes`).
 use mathlib.Core.Path.{◌≡◌, refl, sym, ap, ap₂, ◌∙◌}
 use mathlib.Core.List.{List, [], ◌∷◌, ◌++◌, append_assoc, append-nil}
 use Prim.Native.Nat.{ℕ, zero, suc, ◌+◌, ◌*◌, ◌/◌, ◌%◌, ◌^◌, ◌≤◌, ◌<◌}
-use native.Mathlib.Nat.{pow-suc, mul_assoc, mul_comm, add-mul, add-zero, add-suc, mul-le-mul_right, mod-eq_of_lt}
+use native.Mathlib.Nat.{pow-suc, mul_assoc, mul_comm, add-mul, add-zero, add-suc, mul-le-mul_right, mod-eq_of_lt, div-add-mod', mod-lt, zero-add}
 use native.Mathlib.Numerals.{one-add}
 use native.Mathlib.Omega.{arith}
 use lib.Dec.{lit<}
 use lib.ListN.{length, length-append}
 use lib.Bits.{bit_xor, xor_shr, xor_mod}
+use Rattle.std.specs.Int.{bytes_high_first}
 use Rattle.stun_address.specs.Source.{to_be, from_be, from_be_after, xored}
+use Rattle.stun_address.specs.Rfc.{network}
 
 -- every element is a byte
 abbrev pub Bytes : List ℕ → Type 0
@@ -80,3 +82,30 @@ to_be_xor zero x y = refl
 to_be_xor (suc n) x y =
     ap₂ (λ (l : List ℕ) (b : ℕ). l ++ (b ∷ [])) (ap (to_be n) (xor_shr x y 8) ∙ to_be_xor n (x / 256) (y / 256)) (xor_mod x y 8)
     ∙ sym (xored_snoc (to_be n (x / 256)) (to_be n (y / 256)) _ _ (length-to_be n (x / 256) ∙ sym (length-to_be n (y / 256))))
+
+pos : (n : ℕ) → 0 < 256 ^ n
+pos zero = lit< tt
+pos (suc n) = let p : 256 ^ suc n ≡ 256 ^ n * 256 = pow-suc 256 n in omega (arith, pos n)
+
+-- a number from its high and its low bytes
+split : (n x : ℕ) → x / 256 ^ n * 256 ^ n + x % 256 ^ n ≡ x
+split n x = div-add-mod' x (256 ^ n)
+
+to_be_mod : (n x : ℕ) → to_be n (x % 256 ^ n) ≡ to_be n x
+to_be_mod n x = sym (to_be_append 0 n (x / 256 ^ n) (x % 256 ^ n) (mod-lt x (pos n))) ∙ ap₂ to_be (zero-add n) (split n x)
+
+-- the two byte orders are one
+pub network_is : (n x : ℕ) → network n x ≡ to_be n x
+network_is zero x = refl
+network_is (suc n) x =
+    ap (λ (r : List ℕ). x / 256 ^ n % 256 ∷ r) (network_is n x ∙ sym (to_be_mod n x))
+    ∙ sym (to_be_append 1 n (x / 256 ^ n) (x % 256 ^ n) (mod-lt x (pos n))) ∙ ap₂ to_be (one-add n) (split n x)
+
+-- the library's bytes are these too
+library_bytes_are : (n x : ℕ) → bytes_high_first n x ≡ network n x
+library_bytes_are zero x = refl
+library_bytes_are (suc zero) x = let e : x ≡ x / 1 = omega arith in ap (λ (y : ℕ). y % 256 ∷ []) e
+library_bytes_are (suc (suc n)) x = ap (λ (r : List ℕ). x / 256 ^ suc n % 256 ∷ r) (library_bytes_are (suc n) x)
+
+pub library_bytes : (n x : ℕ) → bytes_high_first n x ≡ to_be n x
+library_bytes n x = library_bytes_are n x ∙ network_is n x

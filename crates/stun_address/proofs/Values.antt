@@ -3,9 +3,7 @@
 -- written reads back (`round_trip`).
 use mathlib.Core.Path.{◌≡◌, refl, sym, ap, ap₂, ◌∙◌}
 use mathlib.Core.List.{List, [], ◌∷◌, ◌++◌}
-use Prim.Native.Nat.{ℕ, zero, suc, ◌+◌, ◌*◌, ◌/◌, ◌%◌, ◌^◌, ◌≤◌, ◌<◌}
-use native.Mathlib.Nat.{div-add-mod', mod-lt, pow-suc, zero-add}
-use native.Mathlib.Numerals.{one-add}
+use Prim.Native.Nat.{ℕ, ◌+◌, ◌*◌, ◌^◌, ◌≤◌, ◌<◌}
 use native.Mathlib.Omega.{arith}
 use lib.Dec.{lit<}
 use lib.ListN.{length, take, drop, length-append}
@@ -14,30 +12,12 @@ use lib.Bits.{bit_xor, xor_lt}
 use Rattle.stun_address.specs.declared.Ip.{Ip}
 use Rattle.stun_address.specs.declared.Ip.TheVariants.{V4, V6}
 use Rattle.stun_address.specs.declared.Address.{Address}
-use Rattle.stun_address.specs.declared.Peer.TheVariants.{At}
+use Rattle.std.specs.Prelude.{Some}
 use Rattle.stun_address.specs.Source.{to_be, from_be, MAGIC, key, xored, xor_port, octets, of_octets, encode_ip, encode_xor_addr, encoded, at_port, decode_xor_addr}
-use Rattle.stun_address.specs.Rfc.{network, number, cookie, family, x_address, value, size, HeldIp, Held}
-use Rattle.stun_address.proofs.Network.{Bytes, to_be_append, to_be_xor, from_to, to_from, from_be_cons, from_be_less}
+use Rattle.stun_address.specs.Rfc.{number, cookie, family, x_address, value, size, HeldIp, Held}
+use Rattle.stun_address.proofs.Network.{Bytes, to_be_append, to_be_xor, network_is, from_to, to_from, from_be_cons, from_be_less}
 use Rattle.stun_address.proofs.Reading.{decode_v4, decode_octets, at_port_is}
 use Rattle.stun_address.proofs.Cancel.{cancel, xored_cancel, length-xored}
-
-pos : (n : ℕ) → 0 < 256 ^ n
-pos zero = lit< tt
-pos (suc n) = let p : 256 ^ suc n ≡ 256 ^ n * 256 = pow-suc 256 n in omega (arith, pos n)
-
--- a number from its high and its low bytes
-split : (n x : ℕ) → x / 256 ^ n * 256 ^ n + x % 256 ^ n ≡ x
-split n x = div-add-mod' x (256 ^ n)
-
-to_be_mod : (n x : ℕ) → to_be n (x % 256 ^ n) ≡ to_be n x
-to_be_mod n x = sym (to_be_append 0 n (x / 256 ^ n) (x % 256 ^ n) (mod-lt x (pos n))) ∙ ap₂ to_be (zero-add n) (split n x)
-
--- the two byte orders are one
-pub network_is : (n x : ℕ) → network n x ≡ to_be n x
-network_is zero x = refl
-network_is (suc n) x =
-    ap (λ (r : List ℕ). x / 256 ^ n % 256 ∷ r) (network_is n x ∙ sym (to_be_mod n x))
-    ∙ sym (to_be_append 1 n (x / 256 ^ n) (x % 256 ^ n) (mod-lt x (pos n))) ∙ ap₂ to_be (one-add n) (split n x)
 
 pub number_is : (l : List ℕ) → number l ≡ from_be l
 number_is [] = refl
@@ -72,13 +52,13 @@ sent : ℕ → Ip → ℕ → List ℕ → List ℕ → List ℕ
 sent first ip port id rest = ((first ∷ family ip ∷ []) ++ to_be 2 (xor_port port) ++ encode_ip ip id) ++ rest
 
 read : (first : ℕ) (ip : Ip) (port : ℕ) (id rest : List ℕ) → length id ≡ 12 → HeldIp ip → port < 2 ^ 16
-    → decode_xor_addr (sent first ip port id rest) id ≡ At (record { ip = ip; port = port })
+    → decode_xor_addr (sent first ip port id rest) id ≡ Some (record { ip = ip; port = port })
 unfolding sent
 read first (V4 x) port id rest n h p =
     sym
     (decode_v4 (sent first (V4 x) port id rest) id (omega arith) (xor_port port) (xor_lt 16 port 0x2112 p (lit< tt)) refl (bit_xor x MAGIC) refl
     (xor_lt 32 x MAGIC h (lit< tt)) refl)
-    ∙ ap₂ (λ (a b : ℕ). At (record { ip = V4 a; port = b })) (cancel x MAGIC) (cancel port 0x2112)
+    ∙ ap₂ (λ (a b : ℕ). Some (record { ip = V4 a; port = b })) (cancel x MAGIC) (cancel port 0x2112)
 read first (V6 high low) port id rest n h p =
     let e : List ℕ = xored (octets high low) (key id) in
     let m : length e ≡ 16 = length-xored (octets high low) (key id) (omega arith) in
@@ -88,10 +68,10 @@ read first (V6 high low) port id rest n h p =
     ap (λ (r : List ℕ). of_octets (xored r (key id))) (take_at e rest 16 m)
     ∙ ap of_octets (xored_cancel (octets high low) (key id) (omega arith)) ∙ ap₂ V6 (from_to 8 high h.0) (from_to 8 low h.1) in
     decode_octets v id (omega arith) l refl ∙ ap (at_port v) o ∙ at_port_is v id (omega arith) (xor_port port) (xor_lt 16 port 0x2112 p (lit< tt)) refl (V6 high low)
-    ∙ ap (λ (b : ℕ). At (record { ip = V6 high low; port = b })) (cancel port 0x2112)
+    ∙ ap (λ (b : ℕ). Some (record { ip = V6 high low; port = b })) (cancel port 0x2112)
 
 -- any value that the RFC has, read
-pub value_read : (first : ℕ) (addr : Address) (id rest : List ℕ) → length id ≡ 12 → Bytes id → Held addr → decode_xor_addr (value first addr id ++ rest) id ≡ At addr
+pub value_read : (first : ℕ) (addr : Address) (id rest : List ℕ) → length id ≡ 12 → Bytes id → Held addr → decode_xor_addr (value first addr id ++ rest) id ≡ Some addr
 unfolding sent
 value_read first addr id rest n b h =
     ap₂ (λ (p r : List ℕ). decode_xor_addr (((first ∷ family addr.ip ∷ []) ++ p ++ r) ++ rest) id) (network_is 2 (xor_port addr.port))
@@ -99,7 +79,7 @@ value_read first addr id rest n b h =
     ∙ read first addr.ip addr.port id rest n h.ip_fits h.port_fits
 
 -- what was written reads back
-pub round_trip : (addr : Address) (id rest : List ℕ) → length id ≡ 12 → Held addr → decode_xor_addr (encode_xor_addr addr id ++ rest) id ≡ At addr
+pub round_trip : (addr : Address) (id rest : List ℕ) → length id ≡ 12 → Held addr → decode_xor_addr (encode_xor_addr addr id ++ rest) id ≡ Some addr
 unfolding encode_xor_addr sent
 round_trip addr id rest n h = read 0 addr.ip addr.port id rest n h.ip_fits h.port_fits
 

@@ -1,12 +1,10 @@
 -- What stun.rs does in `encode_xor_addr` and `decode_xor_addr`, line by line, under its names.
-use Rattle.std.specs.Prelude.{cond, ◌&&◌, List, [], ◌∷◌, ◌++◌, ℕ, zero, suc, ◌+◌, ◌-◌, ◌*◌, ◌/◌, ◌%◌, ◌^◌, length, get_or, take, drop, replicate, ltb, leb, eqb}
+use Rattle.std.specs.Prelude.{cond, ◌&&◌, List, [], ◌∷◌, ◌++◌, ℕ, zero, suc, ◌+◌, ◌-◌, ◌*◌, ◌/◌, ◌%◌, ◌^◌, length, get_or, take, drop, replicate, ltb, leb, eqb, Option, Some, None}
 use Rattle.std.specs.Int.Bits.{bit_xor}
 use Rattle.stun_address.specs.declared.Ip.{Ip}
 use Rattle.stun_address.specs.declared.Ip.TheVariants.{V4, V6}
 use Rattle.stun_address.specs.declared.Address.{Address}
 use Rattle.stun_address.specs.declared.Encoded.{Encoded}
-use Rattle.stun_address.specs.declared.Peer.{Peer}
-use Rattle.stun_address.specs.declared.Peer.TheVariants.{At, Nothing}
 
 -- x.to_be_bytes(), of a number of n bytes
 abbrev pub to_be : ℕ → ℕ → List ℕ
@@ -67,11 +65,11 @@ encoded addr tid =
     }
 
 -- an address at the port of bytes 2 and 3
-abbrev pub at_port : List ℕ → Ip → Peer
-at_port v ip = At (record { ip = ip; port = xor_port (from_be (get_or v 2 0 ∷ get_or v 3 0 ∷ [])) })
+abbrev pub at_port : List ℕ → Ip → Option Address
+at_port v ip = Some (record { ip = ip; port = xor_port (from_be (get_or v 2 0 ∷ get_or v 3 0 ∷ [])) })
 
-unfoldable pub decode_xor_addr : List ℕ → List ℕ → Peer
+unfoldable pub decode_xor_addr : List ℕ → List ℕ → Option Address
 decode_xor_addr v tid =
-    cond (ltb (length v) 8) Nothing
+    cond (ltb (length v) 8) None
     (cond (eqb (get_or v 1 0) 0x01) (at_port v (V4 (bit_xor (from_be (take 4 (drop 4 v))) MAGIC)))
-    (cond (eqb (get_or v 1 0) 0x02 && leb 20 (length v)) (at_port v (of_octets (xored (take 16 (drop 4 v)) (key tid)))) Nothing))
+    (cond (eqb (get_or v 1 0) 0x02 && leb 20 (length v)) (at_port v (of_octets (xored (take 16 (drop 4 v)) (key tid)))) None))

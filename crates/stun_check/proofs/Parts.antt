@@ -1,7 +1,7 @@
 -- What the check digests in two parts is what the definition covers (`covered_is`, `signed`), and what it compares is the
 -- definition's answer (`verified_is`). Five parts make the long-term key (`keyed_by`).
 use mathlib.Core.Path.{◌≡◌, sym, ap, ◌∙◌}
-use Prim.Native.Nat.{ℕ, zero, suc, ◌+◌, ◌-◌, ◌/◌, ◌%◌, ◌^◌, ◌≤◌, ◌<◌}
+use Prim.Native.Nat.{ℕ, zero, suc, ◌+◌, ◌-◌, ◌%◌, ◌≤◌, ◌<◌}
 use native.Mathlib.Nat.{sub-zero, zero-sub, suc-sub-suc}
 use native.Mathlib.Omega.{arith}
 use mathlib.Core.List.{List, [], ◌∷◌, ◌++◌, append_assoc}
@@ -9,6 +9,7 @@ use mathlib.Core.Bool.{false}
 use borrow.Author.Tests.{le-ltb, lt-ltb}
 use lib.ListN.{length, get_or, take, drop}
 use lib.Seq.{take-nil}
+use Rattle.std.specs.Int.{w16, to_be_bytes}
 use Rattle.digest.specs.Digest.{digest}
 use Rattle.digest.specs.Running.{Running, fresh, fed, run, finished}
 use Rattle.digest.specs.Hmac.{Keyed, hmac, keyed, keyed_fed, keyed_finished}
@@ -25,12 +26,9 @@ drop_take (suc k) zero l = rw zero-sub
 drop_take (suc k) (suc n) [] = sym (take-nil (suc n - suc k))
 drop_take (suc k) (suc n) (x ∷ xs) = rw suc-sub-suc (drop_take k n xs)
 
-pub covered_is : (b : List ℕ) (p n : ℕ) → 20 ≤ p → p ≤ length b → n ≡ (p + 4) % 65536
-    → (get_or b 0 0 ∷ get_or b 1 0 ∷ n / 256 ∷ n % 256 ∷ []) ++ take (p - 4) (drop 4 b) ≡ covered b p
-covered_is b p n ge le e =
-    let h : (p + 4) % 2 ^ 16 / 256 % 256 ≡ n / 256 = omega arith in
-    let l : (p + 4) % 2 ^ 16 % 256 ≡ n % 256 = omega arith in
-    rw (take-elements b 0 2 (omega arith), drop_take 4 p b, h, l)
+pub covered_is : (b : List ℕ) (p n : ℕ) (field : List ℕ) → 20 ≤ p → p ≤ length b → n ≡ (p + 4) % 65536 → field ≡ to_be_bytes w16 n
+    → (get_or b 0 0 ∷ get_or b 1 0 ∷ get_or field 0 0 ∷ get_or field 1 0 ∷ []) ++ take (p - 4) (drop 4 b) ≡ covered b p
+covered_is b p n field ge le e f = rw (take-elements b 0 2 (omega arith), drop_take 4 p b, f, e)
 
 -- two parts under the key
 pub signed : (key a b : List ℕ) (h₀ h₁ h₂ : Keyed) (mac : List ℕ) → h₀ ≡ keyed sha1 key → h₁ ≡ keyed_fed sha1 h₀ a → h₂ ≡ keyed_fed sha1 h₁ b

@@ -1,14 +1,14 @@
 -- The check's own walk, one turn of the loop: it stops, it has found the attribute, or it passes over one. `Left` is what a
 -- turn keeps: from here on, with attributes enough, the definition finds what it finds from the start.
-use mathlib.Core.Path.{◌≡◌, refl, ◌∙◌}
-use Prim.Native.Nat.{ℕ, zero, suc, ◌+◌, ◌≤◌, ◌<◌, min}
+use mathlib.Core.Path.{◌≡◌, refl, ap, ◌∙◌}
+use Prim.Native.Nat.{ℕ, zero, suc, ◌+◌, ◌*◌, ◌≤◌, ◌<◌, min}
 use native.Mathlib.Nat.{lt_of_not-le}
 use native.Mathlib.Decide.{dec_le}
 use native.Mathlib.Omega.{arith}
 use mathlib.Core.List.{List}
 use mathlib.Core.Bool.{true, false, ◌&&◌}
 use borrow.Author.Tests.{le-leb, lt-leb, eq-eqb, ne_eqb}
-use lib.ListN.{length}
+use lib.ListN.{length, get_or}
 use lib.Dec.{leb}
 use Rattle.stun_check.specs.Source.{u16_at, padded, integrity_from, integrity_at}
 
@@ -47,10 +47,17 @@ module _ (b : List ℕ) (p : ℕ) (l : Left b p) (h : p + 4 ≤ min (20 + u16_at
       found zero f = absurd (omega arith)
       found (suc n) f = rw (goes b p h, eq-eqb (u16_at b p) 8 e)
 
-  pub left_next : (u16_at b p ≡ 8 → ⊥) → Left b (p + 4 + padded (u16_at b (p + 2)))
+  left_on : (u16_at b p ≡ 8 → ⊥) → Left b (p + 4 + padded (u16_at b (p + 2)))
   unfolding integrity_from
-  left_next e = next l.fuel l.enough l.same
+  left_on e = next l.fuel l.enough l.same
     where
       next : (n : ℕ) → length b ≤ p + n → integrity_from n b p ≡ integrity_at b → Left b (p + 4 + padded (u16_at b (p + 2)))
       next zero f s = absurd (omega arith)
       next (suc n) f s = record { fuel = n; enough = omega arith; same = rw (goes b p h, ne_eqb (u16_at b p) 8 e) at s }
+
+  -- with the numbers that the code reads
+  pub left_next : (u16_at b p ≡ 8 → ⊥) → (len size : ℕ) → len ≡ get_or b (p + 2) 0 * 256 + get_or b (p + 3) 0 → size ≡ padded len → Left b (p + 4 + size)
+  left_next e len size f g =
+      let t : p + 3 ≡ p + 2 + 1 = omega arith in
+      let h : len ≡ u16_at b (p + 2) = f ∙ ap (λ (j : ℕ). get_or b (p + 2) 0 * 256 + get_or b j 0) t in
+      rw (g, h) (left_on e)

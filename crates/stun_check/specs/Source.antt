@@ -1,5 +1,5 @@
 -- `Message::verify` and `long_term_key` of stun.rs, line by line. A message is the list of its bytes.
-use Rattle.std.specs.Prelude.{ℕ, zero, suc, ◌+◌, ◌*◌, ◌/◌, ◌%◌, ◌^◌, List, [], ◌∷◌, ◌++◌, length, get_or, take, drop, leb, ltb, eqb}
+use Rattle.std.specs.Prelude.{ℕ, zero, suc, ◌+◌, ◌*◌, ◌/◌, ◌%◌, ◌^◌, List, [], ◌∷◌, ◌++◌, length, get_or, take, drop, leb, ltb, eqb, Option, Some, None, ◌≡◌, ◌≤◌}
 use mathlib.Core.Bool.{Bool, false, cond, ◌&&◌}
 use Rattle.digest.specs.Bytes.{bytes, big}
 use Rattle.digest.specs.Digest.{digest}
@@ -25,6 +25,11 @@ integrity_from (suc n) b p =
 -- each attribute takes 4 bytes or more, so the buffer's length is attributes enough
 abbrev pub integrity_at : List ℕ → ℕ
 integrity_at b = integrity_from (length b) b 20
+
+-- the same as the code answers it, for the private function's contract
+abbrev pub Placed : List ℕ → Option ℕ → Type 0
+Placed b None = integrity_at b ≡ length b
+Placed b (Some p) = (p ≡ integrity_at b) × (20 ≤ p) × (p + 4 ≤ length b)
 
 -- the bytes that the check covers: all before the attribute, with the length field set to p - 20 + 24 as u16
 abbrev pub covered : List ℕ → ℕ → List ℕ

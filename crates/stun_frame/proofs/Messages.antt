@@ -11,10 +11,10 @@ use lib.ListN.{length, get_or, take, drop, replicate, length-append, length-drop
 use lib.Seq.{take_at, drop-drop, length-take-le}
 use lib.Dec.{leb}
 use lib.Bits.{bit_and, and_high}
-use Rattle.stun_frame.specs.declared.Channel.TheVariants.{Data}
-use Rattle.stun_frame.specs.declared.Written.{Written}
-use Rattle.stun_frame.specs.declared.Written.TheVariants.{Bytes, TooLong, NoRoom}
-use Rattle.stun_frame.specs.Source.{is_stun, is_channel_data, decode_channel_data, part, padding, encode_channel_data, room_after, number_of, Wrote}
+use Rattle.std.specs.Prelude.{Some, Ok, Err}
+use Rattle.stun_frame.specs.declared.ChannelData.{ChannelData}
+use Rattle.stun_frame.specs.declared.Unwritten.TheVariants.{TooLong, NoRoom}
+use Rattle.stun_frame.specs.Source.{is_stun, is_channel_data, decode_channel_data, part, padding, encode_channel_data, Written, room_after, number_of, Wrote}
 use Rattle.stun_frame.specs.Rfc.{StunParts, stun_message, ChannelParts, channel_message, Padding, Framed, channel}
 use Rattle.stun_frame.proofs.Reading.{channel_first, channel_found, Found, channel_of}
 use Rattle.stun_frame.proofs.Writing.{was_written}
@@ -49,7 +49,7 @@ pub channel_is : {number : ℕ} {body : List ℕ} → ChannelParts number body �
 channel_is {number} {body} p rest = channel_by (channel_message number body ++ rest) (omega arith) (omega arith) (omega arith)
 
 pub channel_read : {number : ℕ} {body : List ℕ} → ChannelParts number body → (rest : List ℕ)
-    → decode_channel_data (channel_message number body ++ rest) ≡ Data number 4 (length body)
+    → decode_channel_data (channel_message number body ++ rest) ≡ Some (record { number = number; start = 4; len = length body })
 channel_read {number} {body} p rest =
     sym
     (channel_found (channel_message number body ++ rest) number (length body) (channel_is p rest) (omega arith) (omega arith) (omega (arith, length-append body rest)))
@@ -68,13 +68,13 @@ pub channel_written : {number : ℕ} {body : List ℕ} → ChannelParts number b
 unfolding encode_channel_data
 channel_written {number} {body} p = channel p (padding_is body)
 
--- what the room holds after an answer `Bytes` reads back, whatever it held before, and is a frame
+-- what the room holds after an answer `Ok` reads back, whatever it held before, and is a frame
 pub record Back (number : ℕ) (body after : List ℕ) (k : ℕ) : Type 0 where
-  pub read : decode_channel_data after ≡ Data number 4 (length body)
+  pub read : decode_channel_data after ≡ Some (record { number = number; start = 4; len = length body })
   pub same : part after 4 (length body) ≡ body
   pub framed : Framed (take k after)
 
-pub round_trip : {number k : ℕ} {body out after : List ℕ} → Wrote number body out (Bytes k) after → 0x4000 ≤ number → number ≤ 0x7FFF → Back number body after k
+pub round_trip : {number k : ℕ} {body out after : List ℕ} → Wrote number body out (Ok k) after → 0x4000 ≤ number → number ≤ 0x7FFF → Back number body after k
 unfolding encode_channel_data
 round_trip {number} {k} {body} {out} {after} w a b =
     let h : (length body ≤ 65535) × (k ≡ length (encode_channel_data number body)) × (after ≡ encode_channel_data number body ++ drop k out) = was_written w in
@@ -88,9 +88,9 @@ round_trip {number} {k} {body} {out} {after} w a b =
     }
 
 unchanged : (a : Written) (v out : List ℕ) → (number_of a ≡ 0 → ⊥) → room_after a v out ≡ out
-unchanged (Bytes k) v out h = absurd (h refl)
-unchanged TooLong v out h = refl
-unchanged NoRoom v out h = refl
+unchanged (Ok k) v out h = absurd (h refl)
+unchanged (Err TooLong) v out h = refl
+unchanged (Err NoRoom) v out h = refl
 
 -- a refusal changes no byte
 pub refused : {number : ℕ} {body out after : List ℕ} {a : Written} → Wrote number body out a after → (number_of a ≡ 0 → ⊥) → after ≡ out
@@ -105,14 +105,16 @@ four_first (a ∷ b ∷ c ∷ []) h = absurd (omega arith)
 four_first (a ∷ b ∷ c ∷ d ∷ r) h = refl
 
 -- what reads as ChannelData is well-formed, its bytes being bytes: with `channel_read`, exactly that is read
-pub record Formed (s : List ℕ) (number start len : ℕ) : Type 0 where
-  pub starts : start ≡ 4
-  pub parts : ChannelParts number (part s 4 len)
-  pub whole : s ≡ channel_message number (part s 4 len) ++ drop (4 + len) s
+pub record Formed (s : List ℕ) (d : ChannelData) : Type 0 where
+  pub starts : d.start ≡ 4
+  pub parts : ChannelParts d.number (part s 4 d.len)
+  pub whole : s ≡ channel_message d.number (part s 4 d.len) ++ drop (4 + d.len) s
 
-pub channel_only : (s : List ℕ) (number start len : ℕ) → ((i : ℕ) → get_or s i 0 < 256) → decode_channel_data s ≡ Data number start len → Formed s number start len
-channel_only s number start len b e =
-    let f : Found s number start len = channel_of s number start len e in
+pub channel_only : (s : List ℕ) (d : ChannelData) → ((i : ℕ) → get_or s i 0 < 256) → decode_channel_data s ≡ Some d → Formed s d
+channel_only s d b e =
+    let number : ℕ = d.number in
+    let len : ℕ = d.len in
+    let f : Found s d = channel_of s d e in
     let n : length (part s 4 len) ≡ len = length-take-le len (drop 4 s) (omega (arith, f.room, length-drop 4 s)) in
     let four : 4 ≤ length s = omega (arith, f.room) in
     let h : number / 256 ≡ get_or s 0 0 = omega (arith, f.numbered, b 1) in

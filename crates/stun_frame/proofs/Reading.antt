@@ -7,9 +7,10 @@ use Prim.Native.Nat.{ℕ, ◌+◌, ◌-◌, ◌*◌, ◌/◌, ◌^◌, ◌≤◌
 use native.Mathlib.Omega.{arith}
 use borrow.Author.Tests.{le-leb, lt-leb, lt-ltb, le-ltb, leb-true, ltb-true, ltb-false, ne_eqb}
 use lib.ListN.{length, get_or}
+use Rattle.std.specs.Prelude.{Option, Some, None}
 use lib.Dec.{ltb, leb}
 use lib.Bits.{bit_and, and_high}
-use Rattle.stun_frame.specs.declared.Channel.TheVariants.{Data, Nothing}
+use Rattle.stun_frame.specs.declared.ChannelData.{ChannelData}
 use Rattle.stun_frame.specs.declared.Frame.TheVariants.{Incomplete, Corrupt}
 use Rattle.stun_frame.specs.Source.{is_channel_data, field_at, decode_channel_data, whole, stream_frame_len}
 
@@ -39,39 +40,42 @@ channel_first s e =
     let f : (leb 0x40 (get_or s 0 0) && leb (get_or s 0 0) 0x7F) ≡ true = second (leb 4 (length s)) _ e in
     (leb-true 0x40 (get_or s 0 0) (first _ _ f), leb-true (get_or s 0 0) 0x7F (second (leb 0x40 (get_or s 0 0)) _ f))
 
-pub channel_found : (s : List ℕ) (n m : ℕ) → is_channel_data s ≡ true → n ≡ field_at s 0 → m ≡ field_at s 2 → 4 + m ≤ length s → Data n 4 m ≡ decode_channel_data s
+pub channel_found : (s : List ℕ) (n m : ℕ) → is_channel_data s ≡ true → n ≡ field_at s 0 → m ≡ field_at s 2 → 4 + m ≤ length s → ◌≡◌ {A = Option ChannelData} (Some (record { number = n; start = 4; len = m })) (decode_channel_data s)
 unfolding decode_channel_data
 channel_found s n m e p q h = rw (p, q, e, le-leb (4 + field_at s 2) (length s) (rw q at h))
 
-pub channel_short : (s : List ℕ) (m : ℕ) → is_channel_data s ≡ true → m ≡ field_at s 2 → length s < 4 + m → Nothing ≡ decode_channel_data s
+pub channel_short : (s : List ℕ) (m : ℕ) → is_channel_data s ≡ true → m ≡ field_at s 2 → length s < 4 + m → None ≡ decode_channel_data s
 unfolding decode_channel_data
 channel_short s m e q h = rw (e, lt-leb (4 + field_at s 2) (length s) (rw q at h))
 
-pub channel_none : (s : List ℕ) → is_channel_data s ≡ false → Nothing ≡ decode_channel_data s
+pub channel_none : (s : List ℕ) → is_channel_data s ≡ false → None ≡ decode_channel_data s
 unfolding decode_channel_data
 channel_none s e = rw e
 
-data_nothing : {n a l : ℕ} → Data n a l ≡ Nothing → ⊥
+data_nothing : {d : ChannelData} → ◌≡◌ {A = Option ChannelData} (Some d) None → ⊥
 data_nothing e = let z : ◌≡◌ {A = ℕ} 0 1 = cc in omega arith
 
--- what an answer `Data` tells
-pub record Found (s : List ℕ) (number start len : ℕ) : Type 0 where
-  pub first : (0x40 ≤ get_or s 0 0) × (get_or s 0 0 ≤ 0x7F)
-  pub numbered : number ≡ field_at s 0
-  pub started : start ≡ 4
-  pub counted : len ≡ field_at s 2
-  pub room : 4 + len ≤ length s
+some_is : {d e : ChannelData} → ◌≡◌ {A = Option ChannelData} (Some d) (Some e) → d ≡ e
+some_is e = cc
 
-pub channel_of : (s : List ℕ) (number start len : ℕ) → decode_channel_data s ≡ Data number start len → Found s number start len
-channel_of s number start len e = go (is_channel_data s) (compared (length s) (4 + field_at s 2)) refl
+-- what an answer `Some` tells
+pub record Found (s : List ℕ) (d : ChannelData) : Type 0 where
+  pub first : (0x40 ≤ get_or s 0 0) × (get_or s 0 0 ≤ 0x7F)
+  pub numbered : d.number ≡ field_at s 0
+  pub started : d.start ≡ 4
+  pub counted : d.len ≡ field_at s 2
+  pub room : 4 + d.len ≤ length s
+
+pub channel_of : (s : List ℕ) (d : ChannelData) → decode_channel_data s ≡ Some d → Found s d
+channel_of s d e = go (is_channel_data s) (compared (length s) (4 + field_at s 2)) refl
   where
-    go : (t : Bool) → (length s < 4 + field_at s 2) ⊎ (4 + field_at s 2 ≤ length s) → is_channel_data s ≡ t → Found s number start len
-    go false d c = absurd (data_nothing (sym e ∙ sym (channel_none s c)))
-    go true (inl d) c = absurd (data_nothing (sym e ∙ sym (channel_short s (field_at s 2) c refl d)))
-    go true (inr d) c =
-        let f : Data number start len ≡ Data (field_at s 0) 4 (field_at s 2) = sym e ∙ sym (channel_found s (field_at s 0) (field_at s 2) c refl refl d) in
-        let m : len ≡ field_at s 2 = cc in
-        record { first = channel_first s c; numbered = cc; started = cc; counted = m; room = omega arith }
+    go : (t : Bool) → (length s < 4 + field_at s 2) ⊎ (4 + field_at s 2 ≤ length s) → is_channel_data s ≡ t → Found s d
+    go false r c = absurd (data_nothing (sym e ∙ sym (channel_none s c)))
+    go true (inl r) c = absurd (data_nothing (sym e ∙ sym (channel_short s (field_at s 2) c refl r)))
+    go true (inr r) c =
+        let f : d ≡ record { number = field_at s 0; start = 4; len = field_at s 2 } = some_is (sym e ∙ sym (channel_found s (field_at s 0) (field_at s 2) c refl refl r)) in
+        let m : d.len ≡ field_at s 2 = λ i. (f i).len in
+        record { first = channel_first s c; numbered = λ i. (f i).number; started = λ i. (f i).start; counted = m; room = omega arith }
 
 pub frame_start : (s : List ℕ) → length s < 4 → Incomplete ≡ stream_frame_len s
 unfolding stream_frame_len

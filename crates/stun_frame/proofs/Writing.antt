@@ -1,86 +1,86 @@
--- What `encode_channel_data` leaves, for each of its answers, over three parts that are put one after the other.
-use mathlib.Core.Path.{◌≡◌, refl, sym, ap, ◌∙◌}
+-- What `encode_channel_data` leaves, for each of its answers, over the parts that are put one after the other.
+use mathlib.Core.Path.{◌≡◌, refl, sym, ap, ap₂, ◌∙◌}
 use mathlib.Core.Logic.{◌⊎◌, inl, inr}
-use mathlib.Core.List.{List, [], ◌++◌}
-use Prim.Native.Nat.{ℕ, ◌+◌, ◌-◌, ◌≤◌, ◌<◌}
-use native.Mathlib.Nat.{add-sub_of_le, sub-zero, add_assoc}
+use mathlib.Core.List.{List, [], ◌∷◌, ◌++◌, append_assoc}
+use Prim.Native.Nat.{ℕ, ◌+◌, ◌/◌, ◌%◌, ◌^◌, ◌≤◌, ◌<◌}
 use native.Mathlib.Omega.{arith}
 use borrow.Author.Tests.{lt-ltb, le-ltb}
-use lib.ListN.{length, take, drop, replicate, length-append, length-replicate, replicate-append-replicate}
-use lib.Seq.{paste, take_at, drop-append-add, drop-drop, take-length}
-use Rattle.stun_frame.specs.declared.Written.{Written}
-use Rattle.stun_frame.specs.declared.Written.TheVariants.{Bytes, TooLong, NoRoom}
-use Rattle.stun_frame.specs.Source.{to_be, padding, encode_channel_data, written, room_after, Wrote}
+use lib.ListN.{length, drop, replicate, length-append, length-replicate}
+use lib.Seq.{take_at, drop_at, drop-drop}
+use borrow.Rule.Slice.PartMut.{put_mid}
+use Rattle.std.specs.Int.{w16, to_be_bytes}
+use Rattle.std.specs.Prelude.{Ok, Err}
+use Rattle.stun_frame.specs.declared.Unwritten.TheVariants.{TooLong, NoRoom}
+use Rattle.stun_frame.specs.Source.{to_be, padding, encode_channel_data, Written, written, room_after, Wrote}
 use Rattle.stun_frame.proofs.Reading.{compared}
 
 pub length_channel_data : (n : ℕ) (b : List ℕ) → length (encode_channel_data n b) ≡ 4 + length b + padding (length b)
 unfolding encode_channel_data
 length_channel_data n b = simp (length-append, length-replicate) (omega arith)
 
+-- two bytes by the library are the source's
+pub two_bytes : (x : ℕ) → x < 2 ^ 16 → to_be_bytes w16 x ≡ to_be x
+two_bytes x h = let e : x / 256 % 256 ≡ x / 256 = omega arith in ap (λ (y : ℕ). y ∷ x % 256 ∷ []) e
+
 -- a part that is put where the last one ended
-next : (p q s : List ℕ) (at : ℕ) → length p ≡ at → paste (p ++ q) at s (length s) ≡ (p ++ s) ++ drop (length s) q
-next p q s at e = rw (← e, take_at p q (length p) refl, take-length, drop-append-add)
-
-abbrev zeros : ℕ → List ℕ
-zeros n = replicate n 0
-
-take-zeros : (n k : ℕ) → k ≤ n → take (k - 0) (zeros n) ≡ zeros k
-take-zeros n k h =
-    ap (λ (m : ℕ). take m (zeros n)) (sub-zero k) ∙ ap (λ (m : ℕ). take k (zeros m)) (sym (add-sub_of_le h)) ∙ ap (take k) (sym (replicate-append-replicate k (n - k) 0)) ∙ take_at _ _ k (length-replicate k 0)
+pub next : (p q s o : List ℕ) (at k : ℕ) → o ≡ p ++ q → length p ≡ at → put_mid at k o s ≡ (p ++ s) ++ drop k q
+next p q s o at k e f =
+    ap (λ (l : List ℕ). put_mid at k l s) e ∙ ap₂ (λ (x y : List ℕ). x ++ (s ++ drop k y)) (take_at p q at f) (drop_at p q at f) ∙ sym (append_assoc p s (drop k q))
 
 module _ (n : ℕ) (b out : List ℕ) where
-  pub wrote_long : 65535 < length b → Wrote n b out TooLong out
+  pub wrote_long : 65535 < length b → Wrote n b out (Err TooLong) out
   unfolding written
   wrote_long h = record { answered = rw (lt-ltb 65535 (length b) h); left = rw (lt-ltb 65535 (length b) h) }
 
-  pub wrote_narrow : length b ≤ 65535 → length out < 4 + length b + padding (length b) → Wrote n b out NoRoom out
+  pub wrote_narrow : length b ≤ 65535 → length out < 4 + length b + padding (length b) → Wrote n b out (Err NoRoom) out
   unfolding written
   wrote_narrow h g =
       let g' : length out < length (encode_channel_data n b) = rw length_channel_data g in
       record { answered = rw (le-ltb 65535 (length b) h, lt-ltb (length out) (length (encode_channel_data n b)) g'); left = rw (le-ltb 65535 (length b) h, lt-ltb (length out) (length (encode_channel_data n b)) g') }
 
-  is_written : length b ≤ 65535 → 4 + length b + padding (length b) ≤ length out → written n b out ≡ Bytes (4 + length b + padding (length b))
+  is_written : length b ≤ 65535 → 4 + length b + padding (length b) ≤ length out → written n b out ≡ Ok (4 + length b + padding (length b))
   unfolding written
   is_written h g =
       let g' : length (encode_channel_data n b) ≤ length out = rw length_channel_data g in
       rw (le-ltb 65535 (length b) h, le-ltb (length out) (length (encode_channel_data n b)) g', length_channel_data)
 
-  -- the three parts
-  all_put : (h z o₁ o₂ o₃ : List ℕ) → length h ≡ 4 → o₁ ≡ paste out 0 h (length h) → o₂ ≡ paste o₁ 4 b (length b) → o₃ ≡ paste o₂ (4 + length b) z (length z)
-      → o₃ ≡ (h ++ b ++ z) ++ drop (4 + length b + length z) out
-  all_put h z o₁ o₂ o₃ e p q r =
-      let p' : o₁ ≡ h ++ drop (length h) out = p ∙ next [] out h 0 refl in
-      let q' : o₂ ≡ (h ++ b) ++ drop (length b) (drop (length h) out) =
-      q ∙ ap (λ (l : List ℕ). paste l 4 b (length b)) p' ∙ next h _ b 4 e in
-      r ∙ ap (λ (l : List ℕ). paste l (4 + length b) z (length z)) q' ∙ next (h ++ b) _ z (4 + length b) (rw (length-append, e))
-      ∙ rw (drop-drop, drop-drop, e, add_assoc)
+  -- the four parts
+  all_put : (h l d z : List ℕ) (k m : ℕ) → length h ≡ 2 → length l ≡ 2 → length d ≡ length b → k ≡ length b
+      → put_mid (4 + length b) m (put_mid 4 k (put_mid 2 2 (put_mid 0 2 out h) l) d) z ≡ (h ++ l ++ d ++ z) ++ drop (4 + length b + m) out
+  all_put h l d z k m eh el ed ek =
+      next ((h ++ l) ++ d) _ z _ (4 + length b) m
+      (next (h ++ l) _ d _ 4 k (next h _ l _ 2 2 (next [] out h out 0 2 refl refl) eh) (rw (length-append, eh, el)))
+      (rw (length-append, length-append, eh, el, ed))
+      ∙ rw (drop-drop, drop-drop, drop-drop) (ap (λ (j : ℕ). (h ++ l ++ d ++ z) ++ drop j out) (omega arith))
 
-  pub wrote_all : (o₁ o₂ o₃ : List ℕ) (k : ℕ) → length b ≤ 65535 → k ≡ padding (length b) → 4 + length b + k ≤ length out
-      → o₁ ≡ paste out 0 (to_be n ++ to_be (length b)) 4 → o₂ ≡ paste o₁ 4 b (length b)
-      → o₃ ≡ paste o₂ (4 + length b) (take (k - 0) (zeros 4)) (length (take (k - 0) (zeros 4)))
-      → Wrote n b out (Bytes (4 + length b + k)) o₃
+  pub wrote_all : (h l d z : List ℕ) (k m j : ℕ) → n < 2 ^ 16 → length b ≤ 65535 → 4 + length b + padding (length b) ≤ length out
+      → h ≡ to_be_bytes w16 n → l ≡ to_be_bytes w16 (length b) → d ≡ b → k ≡ length b → m ≡ padding (length b) → j ≡ m → z ≡ replicate j 0
+      → Wrote n b out (Ok (4 + length b + padding (length b))) (put_mid (4 + length b) m (put_mid 4 k (put_mid 2 2 (put_mid 0 2 out h) l) d) z)
   unfolding encode_channel_data
-  wrote_all o₁ o₂ o₃ k h e g p q r =
-      let w : written n b out ≡ Bytes (4 + length b + k) = rw e (is_written h (rw e at g)) in
-      let z : take (k - 0) (zeros 4) ≡ zeros (padding (length b)) = take-zeros 4 k (omega arith) ∙ rw e in
-      let m : length (zeros (padding (length b))) ≡ k = length-replicate _ 0 ∙ sym e in
+  wrote_all h l d z k m j f e g eh el ed ek em ej ez =
+      let w : written n b out ≡ Ok (4 + length b + padding (length b)) = is_written e g in
+      let eh' : h ≡ to_be n = eh ∙ two_bytes n f in
+      let el' : l ≡ to_be (length b) = el ∙ two_bytes (length b) (omega arith) in
+      let ez' : z ≡ replicate (padding (length b)) 0 = ez ∙ ap (λ (i : ℕ). replicate i 0) (ej ∙ em) in
+      let p : put_mid (4 + length b) m (put_mid 4 k (put_mid 2 2 (put_mid 0 2 out h) l) d) z ≡ (h ++ l ++ d ++ z) ++ drop (4 + length b + m) out =
+      all_put h l d z k m (ap length eh') (ap length el') (ap length ed) ek in
       record {
         answered = sym w;
-        left = all_put (to_be n ++ to_be (length b)) (take (k - 0) (zeros 4)) o₁ o₂ o₃ refl p q r ∙ rw (w, z, m);
+        left = p ∙ rw (w, eh', el', ed, ez', em);
       }
 
-not_long : (k : ℕ) → Bytes k ≡ TooLong → ⊥
+not_long : (k : ℕ) → ◌≡◌ {A = Written} (Ok k) (Err TooLong) → ⊥
 not_long k e = let z : ◌≡◌ {A = ℕ} 0 1 = cc in omega arith
 
-not_narrow : (k : ℕ) → Bytes k ≡ NoRoom → ⊥
+not_narrow : (k : ℕ) → ◌≡◌ {A = Written} (Ok k) (Err NoRoom) → ⊥
 not_narrow k e = let z : ◌≡◌ {A = ℕ} 0 1 = cc in omega arith
 
 -- the contract's two equations
 pub equations : {n : ℕ} {b out after : List ℕ} {a : Written} → Wrote n b out a after → (a ≡ written n b out) × (after ≡ room_after a (encode_channel_data n b) out)
 equations {n} {b} {out} w = (w.answered, w.left ∙ ap (λ (d : Written). room_after d (encode_channel_data n b) out) (sym w.answered))
 
--- an answer `Bytes`: all of the message stands in front, and its length fits
-pub was_written : {n k : ℕ} {b out after : List ℕ} → Wrote n b out (Bytes k) after
+-- an answer `Ok`: all of the message stands in front, and its length fits
+pub was_written : {n k : ℕ} {b out after : List ℕ} → Wrote n b out (Ok k) after
     → (length b ≤ 65535) × (k ≡ length (encode_channel_data n b)) × (after ≡ encode_channel_data n b ++ drop k out)
 was_written {n} {k} {b} {out} {after} w = go (compared 65535 (length b)) (compared (length out) (4 + length b + padding (length b)))
   where
@@ -89,7 +89,7 @@ was_written {n} {k} {b} {out} {after} w = go (compared 65535 (length b)) (compar
     go (inl h) g = absurd (not_long k (w.answered ∙ sym (wrote_long n b out h).answered))
     go (inr h) (inl g) = absurd (not_narrow k (w.answered ∙ sym (wrote_narrow n b out h g).answered))
     go (inr h) (inr g) =
-        let e : written n b out ≡ Bytes k = sym w.answered in
-        let f : Bytes k ≡ Bytes (4 + length b + padding (length b)) = w.answered ∙ is_written n b out h g in
+        let e : written n b out ≡ Ok k = sym w.answered in
+        let f : ◌≡◌ {A = Written} (Ok k) (Ok (4 + length b + padding (length b))) = w.answered ∙ is_written n b out h g in
         let m : k ≡ 4 + length b + padding (length b) = cc in
         (h, m ∙ sym (length_channel_data n b), w.left ∙ ap (λ (a : Written). room_after a (encode_channel_data n b) out) e)

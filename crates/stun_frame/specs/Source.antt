@@ -1,13 +1,12 @@
 -- What stun.rs and turn.rs do, line by line, under their names: `class`, `is_stun`, `is_channel_data`, `encode_channel_data`,
 -- `decode_channel_data`, `stream_frame_len`. The port adds room that is lent and its two refusals.
-use Rattle.std.specs.Prelude.{◌≡◌, Bool, cond, ◌&&◌, List, [], ◌∷◌, ◌++◌, ℕ, ◌+◌, ◌-◌, ◌*◌, ◌/◌, ◌%◌, ◌^◌, length, get_or, take, drop, replicate, ltb, leb, eqb}
+use Rattle.std.specs.Prelude.{◌≡◌, Bool, cond, ◌&&◌, List, [], ◌∷◌, ◌++◌, ℕ, ◌+◌, ◌-◌, ◌*◌, ◌/◌, ◌%◌, ◌^◌, length, get_or, take, drop, replicate, ltb, leb, eqb, Option, Some, None, Result, Ok, Err}
 use Rattle.std.specs.Int.Bits.{bit_and}
 use Rattle.stun_frame.specs.declared.classes.Class.{Class}
 use Rattle.stun_frame.specs.declared.classes.Class.TheVariants.{Request, Indication, Success, Error}
-use Rattle.stun_frame.specs.declared.Channel.{Channel}
-use Rattle.stun_frame.specs.declared.Channel.TheVariants.{Data, Nothing}
-use Rattle.stun_frame.specs.declared.Written.{Written}
-use Rattle.stun_frame.specs.declared.Written.TheVariants.{Bytes, TooLong, NoRoom}
+use Rattle.stun_frame.specs.declared.ChannelData.{ChannelData}
+use Rattle.stun_frame.specs.declared.Unwritten.{Unwritten}
+use Rattle.stun_frame.specs.declared.Unwritten.TheVariants.{TooLong, NoRoom}
 use Rattle.stun_frame.specs.declared.Frame.{Frame}
 use Rattle.stun_frame.specs.declared.Frame.TheVariants.{Incomplete, Whole, Corrupt}
 
@@ -47,11 +46,11 @@ abbrev pub field_at : List ℕ → ℕ → ℕ
 field_at buf i = from_be (get_or buf i 0) (get_or buf (i + 1) 0)
 
 -- decode_channel_data: buf.get(4..4 + len) is None where it passes the end
-unfoldable pub decode_channel_data : List ℕ → Channel
+unfoldable pub decode_channel_data : List ℕ → Option ChannelData
 decode_channel_data buf =
     cond (is_channel_data buf)
-    (cond (leb (4 + field_at buf 2) (length buf)) (Data (field_at buf 0) 4 (field_at buf 2)) Nothing)
-    Nothing
+    (cond (leb (4 + field_at buf 2) (length buf)) (Some (record { number = field_at buf 0; start = 4; len = field_at buf 2 })) None)
+    None
 
 -- the bytes that such an answer names, &buf[start..start + len]
 abbrev pub part : List ℕ → ℕ → ℕ → List ℕ
@@ -65,17 +64,20 @@ padding n = (4 - n % 4) % 4
 unfoldable pub encode_channel_data : ℕ → List ℕ → List ℕ
 encode_channel_data number body = to_be number ++ to_be (length body) ++ body ++ replicate (padding (length body)) 0
 
+-- an answer: how many bytes stand at the front of the room, or why none do
+abbrev pub Written : Type 0
+Written = Result ℕ Unwritten
+
 -- the answer: over 65,535 bytes the length would not fit its field; then the room
 unfoldable pub written : ℕ → List ℕ → List ℕ → Written
 written number body out =
-    cond (ltb 65535 (length body)) TooLong
-    (cond (ltb (length out) (length (encode_channel_data number body))) NoRoom (Bytes (length (encode_channel_data number body))))
+    cond (ltb 65535 (length body)) (Err TooLong)
+    (cond (ltb (length out) (length (encode_channel_data number body))) (Err NoRoom) (Ok (length (encode_channel_data number body))))
 
 -- the room after that answer
 abbrev pub room_after : Written → List ℕ → List ℕ → List ℕ
-room_after (Bytes n) v out = v ++ drop n out
-room_after TooLong v out = out
-room_after NoRoom v out = out
+room_after (Ok n) v out = v ++ drop n out
+room_after (Err why) v out = out
 
 pub record Wrote (number : ℕ) (body out : List ℕ) (answer : Written) (after : List ℕ) : Type 0 where
   pub answered : answer ≡ written number body out
@@ -83,9 +85,9 @@ pub record Wrote (number : ℕ) (body out : List ℕ) (answer : Written) (after 
 
 -- the number that a caller gets back for an answer: done, too long, no room
 abbrev pub number_of : Written → ℕ
-number_of (Bytes n) = 0
-number_of TooLong = 4
-number_of NoRoom = 8
+number_of (Ok n) = 0
+number_of (Err TooLong) = 4
+number_of (Err NoRoom) = 8
 
 -- (buf.len() >= total).then_some(total)
 abbrev pub whole : ℕ → ℕ → Frame

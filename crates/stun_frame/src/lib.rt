@@ -12,26 +12,26 @@ pub mod names;
 
 use classes::Class;
 
-#[derive(Clone, Copy)]
-pub enum Channel {
-    // The bytes of the data: `len` of them from `start` on.
-    Data {
-        number: u16,
-        start: usize,
-        len: usize,
-    },
-    Nothing,
+// The number, and where the bytes of the data lie: `len` of them from `start` on.
+#[derive(Clone, Copy, PartialEq, Eq)]
+pub struct ChannelData {
+    pub number: u16,
+    pub start: usize,
+    pub len: usize,
 }
 
-#[derive(Clone, Copy)]
-pub enum Written {
-    // How many bytes at the front of the room.
-    Bytes(usize),
+// Why nothing was written.
+#[derive(Clone, Copy, PartialEq, Eq)]
+pub enum Unwritten {
+    // A length would not fit its field.
     TooLong,
+    // The room that was lent is too short.
     NoRoom,
 }
 
-#[derive(Clone, Copy)]
+// Three outcomes that a caller treats in three ways, and none of them is an error: `usize::MAX`, by which the Rust says corrupt, is a case
+// of its own.
+#[derive(Clone, Copy, PartialEq, Eq)]
 pub enum Frame {
     Incomplete,
     Whole(usize),
@@ -39,6 +39,7 @@ pub enum Frame {
 }
 
 // The class of a message type.
+#[tactic(auto, unfolding(crate::specs::Source::class))]
 pub fn class(typ: u16) -> Class
     ensures { result ≡ class typ }
 {
@@ -50,48 +51,17 @@ pub fn class(typ: u16) -> Class
     }
 }
 
-// The number of two bytes, high byte first.
-fn joined(high: u8, low: u8) -> u16
-    ensures { result ≡ from_be high low }
-{
-    (high as u16) * 256 + low as u16
-}
-
-fn wide(x: u16) -> usize
-    ensures { result ≡ x }
-{
-    x as usize
-}
-
 // 20 bytes or more, two zero bits first, the magic cookie.
 #[tactic(auto, unfolding(crate::specs::Source::is_stun))]
 pub fn is_stun(buf: &[u8]) -> bool
     ensures { result ≡ is_stun buf.now }
 {
-    if buf.len() < 20 {
-        return false;
-    }
-    let top = buf[0] & 0xC0;
-    if top != 0 {
-        return false;
-    }
-    let a = buf[4];
-    let b = buf[5];
-    let c = buf[6];
-    let d = buf[7];
-    if a != 0x21 {
-        return false;
-    }
-    if b != 0x12 {
-        return false;
-    }
-    if c != 0xA4 {
-        return false;
-    }
-    if d != 0x42 {
-        return false;
-    }
-    true
+    buf.len() >= 20
+        && buf[0] & 0xC0 == 0
+        && buf[4] == 0x21
+        && buf[5] == 0x12
+        && buf[6] == 0xA4
+        && buf[7] == 0x42
 }
 
 // 4 bytes or more, the first of them 0x40 to 0x7F.
@@ -99,74 +69,48 @@ pub fn is_stun(buf: &[u8]) -> bool
 pub fn is_channel_data(buf: &[u8]) -> bool
     ensures { result ≡ is_channel_data buf.now }
 {
-    if buf.len() < 4 {
-        return false;
-    }
-    let a = buf[0];
-    if a < 0x40 {
-        return false;
-    }
-    if 0x7F < a {
-        return false;
-    }
-    true
+    buf.len() >= 4 && buf[0] >= 0x40 && buf[0] <= 0x7F
 }
 
 // The number, and where in `buf` the data lies.
-pub fn decode_channel_data(buf: &[u8]) -> Channel
+#[tactic(auto, using(crate::proofs::Reading::channel_long), unfolding(crate::specs::Source::decode_channel_data))]
+pub fn decode_channel_data(buf: &[u8]) -> Option<ChannelData>
     ensures { result ≡ decode_channel_data buf.now }
 {
-    if is_channel_data(buf) {
-        let number = joined(buf[0], buf[1]);
-        let len = wide(joined(buf[2], buf[3]));
-        if 4 + len <= buf.len() {
-            return Channel::Data {
-                number: number,
-                start: 4,
-                len: len,
-            };
-        }
+    if !is_channel_data(buf) {
+        return None;
     }
-    Channel::Nothing
+    let number = u16::from_be_bytes([buf[0], buf[1]]);
+    let len = usize::from(u16::from_be_bytes([buf[2], buf[3]]));
+    if buf.len() < 4 + len {
+        return None;
+    }
+    Some(ChannelData {
+        number,
+        start: 4,
+        len,
+    })
 }
 
-// `part` over what stands at `at`.
-fn put(out: &mut [u8], at: usize, part: &[u8])
-    requires { at + length part.now ≤ length out.old }
-    ensures { out.new ≡ paste out.old at part.now (length part.now) }
-{
-    let mut i = 0;
-    while i < part.len() {
-        out[at + i] = part[i];
-        i += 1;
-    }
-}
-
-// Number, length, data and zeros to a multiple of four, at the front of `out`.
-pub fn encode_channel_data(channel: u16, data: &[u8], out: &mut [u8]) -> Written
+// Number, length, data and zeros to a multiple of four, at the front of `out`. The answer is how many bytes these are.
+pub fn encode_channel_data(channel: u16, data: &[u8], out: &mut [u8]) -> Result<usize, Unwritten>
     ensures { (result ≡ written channel «data».now out.old)
         × (out.new ≡ room_after result (encode_channel_data channel «data».now) out.old) }
 {
     let n = data.len();
     if 65535 < n {
-        return Written::TooLong;
+        return Err(Unwritten::TooLong);
     }
-    let pad = (4 - n % 4) % 4;
-    let total = 4 + n + pad;
+    let end = 4 + n;
+    let total = end + (4 - n % 4) % 4;
     if out.len() < total {
-        return Written::NoRoom;
+        return Err(Unwritten::NoRoom);
     }
-    let head = [
-        (channel / 256) as u8,
-        (channel % 256) as u8,
-        (n / 256) as u8,
-        (n % 256) as u8,
-    ];
-    let zeros = [0u8; 4];
-    put(out, 0, &head);
-    put(out, 4, data);
-    put(out, 4 + n, &zeros[0..pad]);
-    Written::Bytes(total)
+    out[0..2].copy_from_slice(&channel.to_be_bytes());
+    out[2..4].copy_from_slice(&(n as u16).to_be_bytes());
+    out[4..end].copy_from_slice(data);
+    out[end..total].fill(0);
+    Ok(total)
 }
 
 // A frame of `total` bytes, where `have` have come.
@@ -180,13 +124,14 @@ fn whole_of(have: usize, total: usize) -> Frame
 }
 
 // The length of the frame that a stream starts with.
+#[tactic(auto, unfolding(crate::specs::Source::stream_frame_len))]
 pub fn stream_frame_len(buf: &[u8]) -> Frame
     ensures { result ≡ stream_frame_len buf.now }
 {
     if buf.len() < 4 {
         return Frame::Incomplete;
     }
-    let len = wide(joined(buf[2], buf[3]));
+    let len = usize::from(u16::from_be_bytes([buf[2], buf[3]]));
     match buf[0] >> 6 {
         0 => whole_of(buf.len(), 20 + len),
         1 => whole_of(buf.len(), 4 + ((len + 3) & !3)),

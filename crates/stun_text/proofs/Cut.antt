@@ -9,6 +9,8 @@ use native.Mathlib.Omega.{arith}
 use lib.ListN.{length, take, drop, length-drop, drop_of_length-le}
 use lib.Seq.{drop-drop, length-take-le}
 use lib.Dec.{eqb}
+use Rattle.std.specs.Prelude.{Ok, Err}
+use Rattle.stun_text.specs.Following.{cut}
 use borrow.Author.Tests.{ltb-true, eqb-true}
 use Rattle.stun_text.specs.Utf8.{Range, within, table, agree, full, greatest, sequence, subpart, whole, size, Part, first, parts_in, parts, shown, replacement, replaced, well_formed}
 
@@ -82,26 +84,68 @@ module _ (s : List ℕ) (i len : ℕ) (good : Bool) (h : i < length s) (part : (
   some : 0 < length (drop i s)
   some = rw length-drop (omega arith)
 
-  pub part_pos : 0 < len
+  part_pos : 0 < len
   part_pos = omega (arith, size_pos (drop i s))
 
-  pub part_le : i + len ≤ length s
+  part_le : i + len ≤ length s
   part_le = omega (arith, size_le (drop i s) some, length-drop i s)
 
-  pub part_length : length (take len (drop i s)) ≡ len
+  part_length : length (take len (drop i s)) ≡ len
   part_length = length-take-le len (drop i s) (omega (arith, size_le (drop i s) some))
 
   rest : drop (size (drop i s)) (drop i s) ≡ drop (i + len) s
   rest = drop-drop (size (drop i s)) i s ∙ ap (λ (n : ℕ). drop (i + n) s) (sym part.0)
 
-  pub well_formed_at : well_formed (drop i s) ≡ (good && well_formed (drop (i + len) s))
+  well_formed_at : well_formed (drop i s) ≡ (good && well_formed (drop (i + len) s))
   well_formed_at = well_formed_next (drop i s) some ∙ ap₂ (λ (t : Bool) (l : List ℕ). t && well_formed l) (sym part.1) rest
 
-  pub replaced_at : replaced (drop i s) ≡ cond good (take len (drop i s)) replacement ++ replaced (drop (i + len) s)
+  replaced_at : replaced (drop i s) ≡ cond good (take len (drop i s)) replacement ++ replaced (drop (i + len) s)
   replaced_at =
       replaced_next (drop i s) some
       ∙ ap₂ (λ (t : Bool) (n : ℕ). cond t (take n (drop i s)) replacement ++ replaced (drop (size (drop i s)) (drop i s))) (sym part.1) (sym part.0)
       ∙ ap (λ (l : List ℕ). cond good (take len (drop i s)) replacement ++ replaced l) rest
+
+-- what the answer for the part at i says: a sequence, or a subpart
+sequence_is : (l : List ℕ) (n : ℕ) → Ok n ≡ cut l → (n ≡ size l) × (true ≡ whole l)
+sequence_is l n e = go (whole l) e
+  where
+    go : (t : Bool) → Ok n ≡ cond t (Ok (size l)) (Err (size l)) → (n ≡ size l) × (true ≡ t)
+    go true e = (cc, refl)
+    go false e = absurd (let z : ◌≡◌ {A = ℕ} 0 1 = cc in omega arith)
+
+subpart_is : (l : List ℕ) (n : ℕ) → Err n ≡ cut l → (n ≡ size l) × (false ≡ whole l)
+subpart_is l n e = go (whole l) e
+  where
+    go : (t : Bool) → Err n ≡ cond t (Ok (size l)) (Err (size l)) → (n ≡ size l) × (false ≡ t)
+    go true e = absurd (let z : ◌≡◌ {A = ℕ} 0 1 = cc in omega arith)
+    go false e = (cc, refl)
+
+module _ (s : List ℕ) (i n : ℕ) (h : i < length s) where
+  module _ (e : Ok n ≡ cut (drop i s)) where
+    abbrev sequence_part : (n ≡ size (drop i s)) × (true ≡ whole (drop i s))
+    sequence_part = sequence_is (drop i s) n e
+
+    pub sequence_bounds : (0 < n) × (i + n ≤ length s) × (length (take n (drop i s)) ≡ n)
+    sequence_bounds = (part_pos s i n true h sequence_part, part_le s i n true h sequence_part, part_length s i n true h sequence_part)
+
+    pub sequence_next : replaced (drop i s) ≡ take n (drop i s) ++ replaced (drop (i + n) s)
+    sequence_next = replaced_at s i n true h sequence_part
+
+    pub sequence_passed : well_formed (drop i s) ≡ well_formed (drop (i + n) s)
+    sequence_passed = well_formed_at s i n true h sequence_part
+
+  module _ (e : Err n ≡ cut (drop i s)) where
+    abbrev subpart_part : (n ≡ size (drop i s)) × (false ≡ whole (drop i s))
+    subpart_part = subpart_is (drop i s) n e
+
+    pub subpart_bounds : (0 < n) × (i + n ≤ length s)
+    subpart_bounds = (part_pos s i n false h subpart_part, part_le s i n false h subpart_part)
+
+    pub subpart_next : replaced (drop i s) ≡ replacement ++ replaced (drop (i + n) s)
+    subpart_next = replaced_at s i n false h subpart_part
+
+    pub subpart_ill : well_formed (drop i s) ≡ false
+    subpart_ill = well_formed_at s i n false h subpart_part
 
 -- the end of the text
 pub well_formed_end : (s : List ℕ) (i : ℕ) → length s ≤ i → well_formed (drop i s) ≡ true

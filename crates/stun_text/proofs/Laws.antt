@@ -10,9 +10,12 @@ use native.Mathlib.Omega.{arith}
 use lib.ListN.{length, take, drop, get_or, replicate, length-drop, length-append, take-append-drop}
 use lib.Seq.{length-take-le, drop_at, take-take, take-append_seam}
 use lib.Dec.{leb}
+use Rattle.std.specs.Prelude.{Result, Ok, Err, is_ok, IfOk}
+use Rattle.stun_text.specs.declared.Text.{Text}
+use Rattle.stun_text.specs.declared.TooLong.{TooLong}
 use borrow.Author.Tests.{leb-true, le-leb, eqb-true, eq-eqb}
 use Rattle.stun_text.specs.Utf8.{Range, within, table, agree, whole, size, replacement, replaced, well_formed}
-use Rattle.stun_text.specs.Lossy.{text_of, no_room, lossy_of}
+use Rattle.stun_text.specs.Lossy.{text_of, lossy_of}
 use Rattle.stun_text.proofs.Table.{begins, first_byte}
 use Rattle.stun_text.proofs.Cut.{size_pos, size_le, replaced_next, well_formed_next, replaced_end, well_formed_end}
 
@@ -113,26 +116,28 @@ ascii_well_formed (b ∷ l) h =
     well_formed_cons (b ∷ []) l (omega arith) (r.good l) (r.long l) (ascii_well_formed l (λ k m. h (suc k) (omega arith)))
 
 module _ (l : List ℕ) where
-  pub lossy_fits : (lossy_of l).fits ≡ leb (length (replaced l)) 763
+  pub lossy_fits : is_ok (lossy_of l) ≡ leb (length (replaced l)) 763
   unfolding lossy_of
   lossy_fits = go (leb (length (replaced l)) 763)
     where
-      go : (t : Bool) → (cond t (record { fits = true; text = text_of (replaced l) }) no_room).fits ≡ t
+      go : (t : Bool) → is_ok (cond {A = Result Text TooLong} t (Ok (text_of (replaced l))) (Err (record {}))) ≡ t
       go true = refl
       go false = refl
 
-  pub lossy_len : (lossy_of l).text.len ≤ 763
+  pub lossy_text : length (replaced l) ≤ 763 → lossy_of l ≡ Ok (text_of (replaced l))
   unfolding lossy_of
-  lossy_len = go (leb (length (replaced l)) 763) refl
-    where
-      go : (t : Bool) → leb (length (replaced l)) 763 ≡ t → (cond t (record { fits = true; text = text_of (replaced l) }) no_room).text.len ≤ 763
-      go true e = leb-true (length (replaced l)) 763 e
-      go false e = omega arith
-
-  pub lossy_text : length (replaced l) ≤ 763 → lossy_of l ≡ record { fits = true; text = text_of (replaced l) }
-  unfolding lossy_of
-  lossy_text h = ap (λ (t : Bool). cond t (record { fits = true; text = text_of (replaced l) }) no_room) (le-leb (length (replaced l)) 763 h)
+  lossy_text h = ap (λ (t : Bool). cond {A = Result Text TooLong} t (Ok (text_of (replaced l))) (Err (record {}))) (le-leb (length (replaced l)) 763 h)
 
   -- a text that fits, read back from the room
   pub text_bytes : length l ≤ 763 → take (text_of l).len (text_of l).bytes ≡ l
   text_bytes h = take-take (length l) 763 (l ++ replicate 763 0) h ∙ take-append_seam l (replicate 763 0)
+
+-- the bytes of a replaced text that fits
+pub lossy_bytes : (l : List ℕ) → IfOk (lossy_of l) (λ (t : Text). take t.len t.bytes ≡ replaced l)
+unfolding lossy_of
+lossy_bytes l = go (leb (length (replaced l)) 763) refl
+  where
+    go : (t : Bool) → leb (length (replaced l)) 763 ≡ t
+        → IfOk (cond {A = Result Text TooLong} t (Ok (text_of (replaced l))) (Err (record {}))) (λ (u : Text). take u.len u.bytes ≡ replaced l)
+    go true e = text_bytes (replaced l) (leb-true (length (replaced l)) 763 e)
+    go false e = tt

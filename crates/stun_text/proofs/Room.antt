@@ -9,11 +9,16 @@ use native.Mathlib.Omega.{arith}
 use lib.ListN.{length, take, drop, replicate, length-append, length-replicate}
 use lib.Seq.{paste, take-append-add, take-append_seam, drop-append-add, take-length}
 use lib.Dec.{leb}
+use borrow.Rule.Slice.PartMut.{put_mid}
+use Rattle.std.proofs.lemmas.Slice.{put_mid-paste}
 use borrow.Author.Tests.{le-leb, lt-leb}
-use Rattle.stun_text.specs.declared.Replaced.{Replaced}
-use Rattle.stun_text.specs.Utf8.{replaced, size, whole}
-use Rattle.stun_text.specs.Lossy.{filled, text_of, no_room, lossy_of}
-use Rattle.stun_text.proofs.Cut.{replaced_end, replaced_at}
+use Rattle.std.specs.Prelude.{Result, Ok, Err}
+use Rattle.stun_text.specs.declared.Text.{Text}
+use Rattle.stun_text.specs.declared.TooLong.{TooLong}
+use Rattle.stun_text.specs.Utf8.{replaced}
+use Rattle.stun_text.specs.Following.{cut}
+use Rattle.stun_text.specs.Lossy.{filled, text_of, lossy_of}
+use Rattle.stun_text.proofs.Cut.{replaced_end, subpart_next}
 
 take-zeros : (k n : ℕ) → k ≤ n → take {A = ℕ} k (replicate n 0) ≡ replicate k 0
 take-zeros zero n h = refl
@@ -59,50 +64,45 @@ pub written_none : (s : List ℕ) → Written s (filled []) 0 0
 written_none s = record { text = []; long = refl; laid = refl; rest = refl; many = omega arith }
 
 module _ {s bytes : List ℕ} {len i : ℕ} (room : len ≤ 763) (w : Written s bytes len i) where
-  pub written_room : length bytes ≡ 763
-  written_room = ap length w.laid ∙ length_pad 763 w.text (omega (arith, w.long))
-
   -- the next part is laid
-  pub written_next : (part after : List ℕ) (n j : ℕ) → after ≡ paste bytes len part (length part) → n ≡ length part → len + n ≤ 763
-      → replaced (drop i s) ≡ part ++ replaced (drop j s) → Written s after (len + n) j
-  written_next part after n j o e h r =
+  pub written_next : (part laid : List ℕ) (n k j : ℕ) → laid ≡ part → k ≡ n → n ≡ length part → len + n ≤ 763
+      → replaced (drop i s) ≡ part ++ replaced (drop j s) → Written s (put_mid len k bytes laid) (len + n) j
+  written_next part laid n k j o q e h r =
       record {
         text = w.text ++ part;
         long = length-append w.text part ∙ ap₂ (λ (a b : ℕ). a + b) w.long (sym e);
         laid =
-            o
+            put_mid-paste len k bytes laid part (length part) o (omega (arith, e, q)) refl
             ∙ ap₂ (λ (d : List ℕ) (k : ℕ). paste d k part (length part)) w.laid (sym w.long)
-            ∙ paste_pad 763 w.text part (omega (arith, w.long));
+            ∙ paste_pad 763 w.text part (omega (arith, w.long, e));
         rest = w.rest ∙ ap (λ (l : List ℕ). w.text ++ l) r ∙ sym (append_assoc w.text part (replaced (drop j s)));
         many = omega (arith, w.many, e, simp length-append at (ap length r));
       }
 
   -- the next part has no room
-  pub written_over : (part more : List ℕ) → replaced (drop i s) ≡ part ++ more → 763 < len + length part → no_room ≡ lossy_of s
+  pub written_over : (part more : List ℕ) → replaced (drop i s) ≡ part ++ more → 763 < len + length part → ◌≡◌ {A = Result Text TooLong} (Err (record {})) (lossy_of s)
   unfolding lossy_of
   written_over part more r h =
       let l : length (replaced s) ≡ len + (length part + length more) =
       ap length (w.rest ∙ ap (λ (l : List ℕ). w.text ++ l) r) ∙ simp length-append (omega (arith, w.long)) in
       let b : leb (length (replaced s)) 763 ≡ false = lt-leb (length (replaced s)) 763 (omega arith) in
-      sym (ap (λ (t : Bool). cond t (record { fits = true; text = text_of (replaced s) }) no_room) b)
+      sym (ap (λ (t : Bool). cond {A = Result Text TooLong} t (Ok (text_of (replaced s))) (Err (record {}))) b)
 
   -- the text has been read to its end
-  pub written_all : length s ≤ i → ◌≡◌ {A = Replaced} (record { fits = true; text = record { bytes = bytes; len = len } }) (lossy_of s)
+  pub written_all : length s ≤ i → ◌≡◌ {A = Result Text TooLong} (Ok (record { bytes = bytes; len = len })) (lossy_of s)
   unfolding lossy_of
   written_all h =
       let e : replaced s ≡ w.text = w.rest ∙ ap (λ (l : List ℕ). w.text ++ l) (replaced_end s i h) ∙ append-nil w.text in
       let l : length (replaced s) ≡ len = ap length e ∙ w.long in
       let b : leb (length (replaced s)) 763 ≡ true = le-leb (length (replaced s)) 763 (omega arith) in
-      ap₂ {C = Replaced} (λ (a : List ℕ) (k : ℕ). record { fits = true; text = record { bytes = a; len = k } }) (w.laid ∙ ap filled (sym e)) (sym l)
-      ∙ sym (ap (λ (t : Bool). cond t (record { fits = true; text = text_of (replaced s) }) no_room) b)
+      ap₂ {C = Result Text TooLong} (λ (a : List ℕ) (k : ℕ). Ok (record { bytes = a; len = k })) (w.laid ∙ ap filled (sym e)) (sym l)
+      ∙ sym (ap (λ (t : Bool). cond {A = Result Text TooLong} t (Ok (text_of (replaced s))) (Err (record {}))) b)
 
 -- the mark for an ill-formed part takes three bytes
-pub mark_next : (s : List ℕ) (i : ℕ) → i < length s → whole (drop i s) ≡ false → 3 ≤ length (replaced (drop i s))
-mark_next s i h ill =
-    omega
-    (arith, ap length (replaced_at s i (size (drop i s)) (whole (drop i s)) h (refl, refl) ∙ ap (λ (t : Bool). cond t (take (size (drop i s)) (drop i s)) (0xEF ∷ 0xBF ∷ 0xBD ∷ []) ++ replaced (drop (i + size (drop i s)) s)) ill))
+pub mark_next : (s : List ℕ) (i n : ℕ) → i < length s → Err n ≡ cut (drop i s) → 3 ≤ length (replaced (drop i s))
+mark_next s i n h e = omega (arith, ap length (subpart_next s i n h e))
 
 -- a replaced text that is too long
-pub over : (s : List ℕ) → 763 < length (replaced s) → lossy_of s ≡ no_room
+pub over : (s : List ℕ) → 763 < length (replaced s) → lossy_of s ≡ Err (record {})
 unfolding lossy_of
-over s h = ap (λ (t : Bool). cond t (record { fits = true; text = text_of (replaced s) }) no_room) (lt-leb (length (replaced s)) 763 h)
+over s h = ap (λ (t : Bool). cond {A = Result Text TooLong} t (Ok (text_of (replaced s))) (Err (record {}))) (lt-leb (length (replaced s)) 763 h)

@@ -4,17 +4,18 @@ use mathlib.Core.Path.{◌≡◌, refl, sym, ap, ap₂, ◌∙◌}
 use mathlib.Core.Bool.{Bool, true, false, cond, ◌&&◌, ◌||◌, and-false, false≢true}
 use mathlib.Core.List.{List, [], ◌∷◌, ◌++◌, map}
 use mathlib.Core.Logic.{◌⊎◌, inl, inr, ⊎_elim}
-use Prim.Native.Nat.{ℕ, zero, suc, ◌+◌, max, ◌≤◌, ◌<◌}
+use Prim.Native.Nat.{ℕ, zero, suc, ◌+◌, ◌-◌, max, ◌≤◌, ◌<◌}
 use native.Mathlib.Nat.{zero-max}
 use native.Mathlib.Decide.{dec_le}
 use native.Mathlib.Numerals.{add-one}
 use native.Mathlib.Omega.{arith}
-use lib.ListN.{length, take, drop, get_or}
-use lib.Seq.{drop-cons}
+use lib.ListN.{length, take, drop, get_or, length-drop}
+use lib.Seq.{drop-cons, take_all}
 use lib.Dec.{T, leb, ltb, eqb, ltb→lt, eqb-zero-suc, eqb-suc-suc}
 use borrow.Author.Tests.{leb-true, lt-leb, le-leb, eqb-true, lt-ltb}
 use Rattle.stun_text.specs.Utf8.{Range, ◌‥◌, within, table, agree, full, greatest, sequence, subpart, whole, size}
-use Rattle.stun_text.specs.Following.{following, Leads}
+use Rattle.std.specs.Prelude.{Result, Ok, Err}
+use Rattle.stun_text.specs.Following.{following, followed, cut, Leads}
 
 -- the row begins with no byte from lo to hi
 abbrev pub misses : ℕ → ℕ → List Range → Bool
@@ -160,12 +161,13 @@ begins_either b h k n = go (dec_le b 0xEC)
     go (no m) = begins (take 5 table) (drop 6 table) 0xEE 0xEF 2 0x80 0xBF b refl tt tt (omega arith) k
 
 -- the part at i, from its first byte and the bytes after it
-pub led : (s : List ℕ) (i more low high len : ℕ) (good : Bool) → i < length s → Leads (get_or s i 0) more low high
-    → (len ≡ suc (agree (following more low high) (drop (i + 1) s))) × (good ≡ eqb (agree (following more low high) (drop (i + 1) s)) more)
-    → (len ≡ size (drop i s)) × (good ≡ whole (drop i s))
-led s i more low high len good h r e =
+pub led : (s : List ℕ) (i more low high : ℕ) (part : Result ℕ ℕ) → i < length s → Leads (get_or s i 0) more low high
+    → part ≡ followed more (agree (following more low high) (take (length s - (i + 1)) (drop (i + 1) s))) → part ≡ cut (drop i s)
+led s i more low high part h r e =
     let d : drop i s ≡ get_or s i 0 ∷ drop (i + 1) s = rw add-one (drop-cons s i 0 h) in
-    (e.0 ∙ sym (r.long (drop (i + 1) s)) ∙ ap size (sym d), e.1 ∙ sym (r.good (drop (i + 1) s)) ∙ ap whole (sym d))
+    let t : take (length s - (i + 1)) (drop (i + 1) s) ≡ drop (i + 1) s = take_all (length s - (i + 1)) (drop (i + 1) s) (omega (arith, length-drop (i + 1) s)) in
+    e ∙ ap (λ (l : List ℕ). followed more (agree (following more low high) l)) t
+    ∙ sym (ap₂ (λ (t : Bool) (n : ℕ). cond {A = Result ℕ ℕ} t (Ok n) (Err n)) (r.good (drop (i + 1) s)) (r.long (drop (i + 1) s))) ∙ ap cut (sym d)
 
 -- no byte begins two rows
 abbrev apart : List (List Range) → Bool

@@ -2,13 +2,12 @@
 // well-formed, and the text with U+FFFD for each maximal ill-formed subpart.
 #![tactic(auto)]
 
-ghost use Rattle.std.specs.Prelude.{◌≡◌, suc, ◌+◌, ◌<◌, ◌≤◌, length, drop, eqb};
-ghost use Rattle.std.proofs.Math.Seq.{paste};
-ghost use Rattle.stun_text.specs.Utf8.{agree, size, whole, well_formed};
-ghost use Rattle.stun_text.specs.Lossy.{lossy_of, no_room};
-ghost use Rattle.stun_text.specs.Following.{following, Leads};
+ghost use Rattle.std.specs.Prelude.{◌≡◌, ◌<◌, length, take, drop};
+ghost use Rattle.stun_text.specs.Utf8.{agree, well_formed};
+ghost use Rattle.stun_text.specs.Lossy.{lossy_of};
+ghost use Rattle.stun_text.specs.Following.{following, followed, cut, Leads};
 
-// The first `len` bytes; the room after them is zero.
+// The first `len` bytes; the room after them is zero. There is no heap, and the client that C holds has four of these.
 #[repr(C)]
 #[derive(Clone, Copy)]
 pub struct Text {
@@ -16,144 +15,97 @@ pub struct Text {
     pub len: usize,
 }
 
-// `fits` is false where the replaced text is longer than the room, and the text is then empty.
-#[derive(Clone, Copy)]
-pub struct Replaced {
-    pub fits: bool,
-    pub text: Text,
+impl Text {
+    // The bytes of the text. A length above the room reads as the room.
+    pub fn as_slice(&self) -> &[u8]
+        ensures { result.now ≡ take self.now.len self.now.bytes }
+    {
+        let len = self.len.min(763);
+        &self.bytes[0..len]
+    }
 }
 
-// A well-formed sequence, where `good`, or a maximal subpart, of `len` bytes.
-#[derive(Clone, Copy)]
-struct Part {
-    len: usize,
-    good: bool,
-}
+// The replaced text is longer than the room.
+#[derive(Clone, Copy, PartialEq, Eq)]
+pub struct TooLong;
 
 // What a first byte asks of the bytes after it: how many there are, and the range of the second
 // byte, from and to.
 #[derive(Clone, Copy)]
 struct Row(usize, u8, u8);
 
-// The text with U+FFFD for each maximal ill-formed subpart.
-#[tactic(auto, using(crate::proofs::Room::mark_next, crate::proofs::Room::over))]
-pub fn lossy(s: &[u8]) -> Replaced
+// The text with U+FFFD for each maximal ill-formed subpart. Each turn takes a part of one to four bytes, so the loop is no `for`.
+#[tactic(auto, using(crate::proofs::Room::mark_next, crate::proofs::Room::over, crate::proofs::Cut::sequence_bounds, crate::proofs::Cut::subpart_bounds))]
+pub fn lossy(s: &[u8]) -> Result<Text, TooLong>
     ensures { result ≡ lossy_of s.now }
 {
     let mut bytes = [0u8; 763];
     let mut len = 0;
     let mut i = 0;
     while i < s.len() {
-        let p = part_at(s, i);
-        let n = p.len;
-        let end = i + n;
-        if p.good {
-            if 763 - len < n {
-                return too_long();
+        match part_at(s, i) {
+            Ok(n) => {
+                if 763 - len < n {
+                    return Err(TooLong);
+                }
+                bytes[len..len + n].copy_from_slice(&s[i..i + n]);
+                len += n;
+                i += n;
             }
-            put(&mut bytes, len, &s[i..end]);
-            len += n;
-        } else {
-            if 763 - len < 3 {
-                return too_long();
+            Err(n) => {
+                if 763 - len < 3 {
+                    return Err(TooLong);
+                }
+                bytes[len..len + 3].copy_from_slice(&[0xEF, 0xBF, 0xBD]);
+                len += 3;
+                i += n;
             }
-            put(&mut bytes, len, &[0xEF, 0xBF, 0xBD]);
-            len += 3;
         }
-        i = end;
     }
-    Replaced {
-        fits: true,
-        text: Text { bytes, len },
-    }
+    Ok(Text { bytes, len })
 }
 
-// Is the text well-formed?
+// Is the text well-formed? As in `lossy`, a turn takes one to four bytes: no `for`.
+#[tactic(auto, using(crate::proofs::Cut::sequence_bounds))]
 pub fn well_formed(s: &[u8]) -> bool
     ensures { result ≡ well_formed s.now }
 {
     let mut i = 0;
     while i < s.len() {
-        let p = part_at(s, i);
-        if !p.good {
-            return false;
+        match part_at(s, i) {
+            Ok(n) => i += n,
+            Err(_) => return false,
         }
-        i += p.len;
     }
     true
 }
 
-fn too_long() -> Replaced
-    ensures { result ≡ no_room }
-{
-    Replaced {
-        fits: false,
-        text: Text {
-            bytes: [0u8; 763],
-            len: 0,
-        },
-    }
-}
-
-// Lays `part` into the room, from `at` on.
-fn put(room: &mut [u8; 763], at: usize, part: &[u8])
-    requires { (length room.old ≡ 763) × (at + length part.now ≤ 763) }
-    ensures { room.new ≡ paste room.old at part.now (length part.now) }
-{
-    let mut j = 0;
-    while j < part.len() {
-        room[at + j] = part[j];
-        j += 1;
-    }
-}
-
-// The part that the text has at i.
-fn part_at(s: &[u8], i: usize) -> Part
+// How many bytes the part has that the text has at i: a well-formed sequence, or else a maximal subpart.
+fn part_at(s: &[u8], i: usize) -> Result<usize, usize>
     requires { i < length s.now }
-    ensures { (result.len ≡ size (drop i s.now)) × (result.good ≡ whole (drop i s.now)) }
+    ensures { result ≡ cut (drop i s.now) }
 {
-    let row = row_of(s[i]);
-    follow(s, i + 1, row.0, row.1, row.2)
+    follow(&s[i + 1..s.len()], row_of(s[i]))
 }
 
-// The part that a first byte and as many of the `more` bytes from `at` on make as are in their
-// ranges: low to high, and 80 to BF for those after it.
-fn follow(s: &[u8], at: usize, more: usize, low: u8, high: u8) -> Part
-    requires { at ≤ length s.now }
-    ensures { (result.len ≡ suc (agree (following more low high) (drop at s.now)))
-        × (result.good ≡ eqb (agree (following more low high) (drop at s.now)) more) }
+// The part that a first byte makes with as many of the bytes after it as are in their ranges: of all that its row asks for a sequence, of fewer
+// a subpart.
+fn follow(rest: &[u8], row: Row) -> Result<usize, usize>
+    ensures { result ≡ followed row.0 (agree (following row.0 row.1 row.2) rest.now) }
 {
-    let mut lo = low;
-    let mut hi = high;
-    let mut k = 0;
-    while k < more {
-        if s.len() - at <= k {
-            return Part {
-                len: k + 1,
-                good: false,
-            };
+    let mut low = row.1;
+    let mut high = row.2;
+    for k in 0..row.0 {
+        if rest.len() <= k {
+            return Err(k + 1);
         }
-        let b = s[at + k];
-        if b < lo {
-            return Part {
-                len: k + 1,
-                good: false,
-            };
+        if rest[k] < low || high < rest[k] {
+            return Err(k + 1);
         }
-        if hi < b {
-            return Part {
-                len: k + 1,
-                good: false,
-            };
-        }
-        lo = 0x80;
-        hi = 0xBF;
-        k += 1;
+        low = 0x80;
+        high = 0xBF;
     }
-    Part {
-        len: more + 1,
-        good: true,
-    }
+    Ok(row.0 + 1)
 }
 
 // The row of Table 3-7 that a byte begins. One that begins none asks for a byte of an empty range.

@@ -7,9 +7,8 @@
 mod messages;
 
 use std::io;
-use stun_address::{Address, Ip, Peer};
+use stun_address::{Address, Ip};
 use stun_frame::classes::Class;
-use stun_walk::Found;
 
 const ATTRIBUTES: [u16; 11] = [
     0x0006, 0x0008, 0x0009, 0x0014, 0x0015, 0x0020, 0x0024, 0x8022, 0x8028, 0x8029, 0x802A,
@@ -47,34 +46,36 @@ fn print_class(rt: &impl Print, typ: u16) -> io::Result<()> {
 }
 
 fn print_header(rt: &impl Print, m: &[u8]) -> io::Result<()> {
-    let d = stun_walk::decode(m);
-    print_class(rt, d.typ)?;
-    print(rt, b"type ")?;
-    print_type(rt, d.typ)?;
-    print(rt, b"\n")?;
-    let id = d.id;
-    vectors::print_named(rt, b"id", &id)
+    match stun_walk::decode(m) {
+        None => print(rt, b"-\n"),
+        Some(header) => {
+            print_class(rt, header.typ)?;
+            print(rt, b"type ")?;
+            print_type(rt, header.typ)?;
+            print(rt, b"\n")?;
+            vectors::print_named(rt, b"id", &header.id)
+        }
+    }
 }
 
 // TYPE START LENGTH of the first attribute of a type, or TYPE -.
 fn print_place(rt: &impl Print, m: &[u8], t: u16) -> io::Result<()> {
     print_type(rt, t)?;
     match stun_walk::get(m, t) {
-        Found::Nothing => print(rt, b" -")?,
-        Found::At { start, len } => {
+        None => print(rt, b" -")?,
+        Some(v) => {
             print(rt, b" ")?;
-            print_number(rt, start)?;
+            print_number(rt, v.start)?;
             print(rt, b" ")?;
-            print_number(rt, len)?;
+            print_number(rt, v.len)?;
         }
     }
     print(rt, b"\n")
 }
 
 fn print_places(rt: &impl Print, m: &[u8]) -> io::Result<()> {
-    let types = ATTRIBUTES;
-    for i in 0..11 {
-        print_place(rt, m, types[i])?;
+    for t in ATTRIBUTES {
+        print_place(rt, m, t)?;
     }
     Ok(())
 }
@@ -100,8 +101,8 @@ fn print_address(rt: &impl Print, a: Address) -> io::Result<()> {
 fn print_mapped(rt: &impl Print, m: &[u8]) -> io::Result<()> {
     print(rt, b"mapped ")?;
     match stun_walk::xor_addr(m, 0x0020) {
-        Peer::Nothing => print(rt, b"-")?,
-        Peer::At(a) => print_address(rt, a)?,
+        None => print(rt, b"-")?,
+        Some(a) => print_address(rt, a)?,
     }
     print(rt, b"\n")
 }
@@ -110,18 +111,11 @@ fn print_mapped(rt: &impl Print, m: &[u8]) -> io::Result<()> {
 fn print_text(rt: &impl Print, m: &[u8], t: u16) -> io::Result<()> {
     print(rt, b"text ")?;
     print_type(rt, t)?;
-    let s = stun_walk::get_str(m, t);
-    if !s.found {
-        return print(rt, b" -\n");
+    match stun_walk::get_str(m, t) {
+        Ok(None) => print(rt, b" -\n"),
+        Ok(Some(text)) => vectors::print_named(rt, b"", text.as_slice()),
+        Err(_) => print(rt, b" too long\n"),
     }
-    let text = s.read.text;
-    let bytes = text.bytes;
-    let all: &[u8] = &bytes;
-    let n = text.len;
-    if n <= all.len() {
-        vectors::print_named(rt, b"", &all[0..n])?;
-    }
-    Ok(())
 }
 
 // Is the value at `start` the CRC-32 of what stands before its attribute, XOR 0x5354554E?
@@ -143,8 +137,8 @@ fn fingerprint(m: &[u8], start: usize) -> bool {
 fn print_fingerprint(rt: &impl Print, m: &[u8]) -> io::Result<()> {
     print(rt, b"fingerprint")?;
     match stun_walk::get(m, 0x8028) {
-        Found::Nothing => print(rt, b" -")?,
-        Found::At { start, .. } => print_bit(rt, fingerprint(m, start))?,
+        None => print(rt, b" -")?,
+        Some(v) => print_bit(rt, fingerprint(m, v.start))?,
     }
     print(rt, b"\n")
 }
@@ -166,8 +160,7 @@ fn print_read(rt: &impl Print, m: &[u8], key: &[u8]) -> io::Result<()> {
 // I READABLE INTEGRITY, for a message whose byte i is changed.
 fn print_changed(rt: &impl Print, m: &[u8], key: &[u8], i: usize) -> io::Result<()> {
     print_number(rt, i)?;
-    let d = stun_walk::decode(m);
-    print_bit(rt, d.readable)?;
+    print_bit(rt, stun_walk::decode(m).is_some())?;
     print_bit(rt, stun_check::verify(m, key))?;
     print(rt, b"\n")
 }

@@ -13,37 +13,35 @@ use lib.Dec.{eqb}
 use lib.Bits.{bit_and, and_comm, and_shifted}
 use Rattle.stun_frame.specs.Source.{field_at, is_stun}
 use Rattle.stun_frame.specs.Rfc.{two, stun_message, StunParts}
-use Rattle.stun_walk.specs.declared.Found.{Found}
-use Rattle.stun_walk.specs.declared.Found.TheVariants.{At, Nothing}
-use Rattle.stun_walk.specs.declared.Code.TheVariants.{Error}
-use Rattle.stun_walk.specs.declared.Granted.TheVariants.{Seconds}
-use Rattle.stun_walk.specs.Source.{Attribute, attributes, readable, decoded, first, get_of, error_code_of, lifetime_of}
-use Rattle.stun_walk.specs.Rfc.{Part, AllFormed, body, Maybe, nothing, just, value_of}
+use Rattle.std.specs.Prelude.{Option, Some, None}
+use Rattle.stun_walk.specs.declared.Value.{Value}
+use Rattle.stun_walk.specs.Source.{Attribute, attributes, readable, decoded, first, get_of, value_in, error_code_of, lifetime_of}
+use Rattle.stun_walk.specs.Rfc.{Part, AllFormed, body, value_of}
 use Rattle.stun_walk.proofs.Reading.{Meaning, seen, meant, Walked, walked}
 use Rattle.stun_walk.proofs.Values.{decoded_some, code_some, lifetime_some}
 
 -- the value that a lookup found
-abbrev pub looked : List ℕ → Found → Maybe
-looked b Nothing = nothing
-looked b (At start len) = just (take len (drop start b))
+abbrev pub looked : List ℕ → Option Value → Option (List ℕ)
+looked b None = None
+looked b (Some v) = Some (value_in b v)
 
 -- the first of a type among meanings
-abbrev of_type : ℕ → List Meaning → Maybe
-of_type t [] = nothing
-of_type t (m ∷ more) = cond (eqb m.typ t) (just m.value) (of_type t more)
+abbrev of_type : ℕ → List Meaning → Option (List ℕ)
+of_type t [] = None
+of_type t (m ∷ more) = cond (eqb m.typ t) (Some m.value) (of_type t more)
 
 first_seen : (b : List ℕ) (t : ℕ) (l : List Attribute) → looked b (first t l) ≡ of_type t (map (seen b) l)
 first_seen b t [] = refl
 first_seen b t (a ∷ more) = pick (eqb a.typ t) (first_seen b t more)
   where
     pick : (q : Bool) → looked b (first t more) ≡ of_type t (map (seen b) more)
-        → looked b (cond q (At (a.at + 4) a.len) (first t more)) ≡ cond q (just (take a.len (drop (a.at + 4) b))) (of_type t (map (seen b) more))
+        → looked b (cond q (Some (record { start = a.at + 4; len = a.len })) (first t more)) ≡ cond q (Some (take a.len (drop (a.at + 4) b))) (of_type t (map (seen b) more))
     pick true e = refl
     pick false e = e
 
 first_meant : (t : ℕ) (parts : List Part) → of_type t (map meant parts) ≡ value_of t parts
 first_meant t [] = refl
-first_meant t (a ∷ more) = ap (cond (eqb a.typ t) (just a.value)) (first_meant t more)
+first_meant t (a ∷ more) = ap (cond (eqb a.typ t) (Some a.value)) (first_meant t more)
 
 -- the top two bits of a type below 2^14
 no_top : (typ : ℕ) → typ < 2 ^ 14 → bit_and (typ / 256) 0xC0 ≡ 0
@@ -51,7 +49,7 @@ no_top typ h = and_comm (typ / 256) 0xC0 ∙ and_shifted 3 6 (typ / 256) (omega 
 
 pub record Reads (b : List ℕ) (typ : ℕ) (id : List ℕ) (parts : List Part) : Type 0 where
   pub read : readable b ≡ true
-  pub head : decoded b ≡ record { readable = true; typ = typ; id = id }
+  pub head : decoded b ≡ Some (record { typ = typ; id = id })
   pub each : map (seen b) (attributes b) ≡ map meant parts
   pub lookup : (t : ℕ) → looked b (get_of b t) ≡ value_of t parts
 
@@ -103,15 +101,14 @@ module _ (typ : ℕ) (id after : List ℕ) (parts : List Part) (good : StunParts
       }
 
 -- a lookup that found a value found it somewhere
-record Somewhere (b : List ℕ) (f : Found) (v : List ℕ) : Type 0 where
-  start : ℕ
-  len : ℕ
-  at : f ≡ At start len
-  is : take len (drop start b) ≡ v
+record Somewhere (b : List ℕ) (f : Option Value) (v : List ℕ) : Type 0 where
+  lies : Value
+  at : f ≡ Some lies
+  is : value_in b lies ≡ v
 
-somewhere : (b : List ℕ) (f : Found) (v : List ℕ) → looked b f ≡ just v → Somewhere b f v
-somewhere b Nothing v e = absurd (let z : ◌≡◌ {A = ℕ} 0 1 = cc in omega arith)
-somewhere b (At start len) v e = record { start = start; len = len; at = refl; is = cc }
+somewhere : (b : List ℕ) (f : Option Value) (v : List ℕ) → looked b f ≡ Some v → Somewhere b f v
+somewhere b None v e = absurd (let z : ◌≡◌ {A = ℕ} 0 1 = cc in omega arith)
+somewhere b (Some lies) v e = record { lies = lies; at = refl; is = cc }
 
 -- the bytes of the value stand in the message
 module _ (b v : List ℕ) (start len : ℕ) (is : take len (drop start b) ≡ v) where
@@ -124,24 +121,24 @@ module _ (b v : List ℕ) (start len : ℕ) (is : take len (drop start b) ≡ v)
   least = omega (arith, ap length (sym is), length-take len (drop start b))
 
 -- section 14.8: an ERROR-CODE of 4 bytes or more has its class in 3 bits and its number in 8
-pub code_reads : (b : List ℕ) (v : List ℕ) → looked b (get_of b 0x0009) ≡ just v → 4 ≤ length v
-    → error_code_of b ≡ Error (get_or v 2 0 % 8 * 100 + get_or v 3 0)
+pub code_reads : (b : List ℕ) (v : List ℕ) → looked b (get_of b 0x0009) ≡ Some v → 4 ≤ length v
+    → error_code_of b ≡ Some (get_or v 2 0 % 8 * 100 + get_or v 3 0)
 code_reads b v e h =
     let s = somewhere b (get_of b 0x0009) v e in
     sym
-    (code_some b s.start s.len s.at (omega (arith, least b v s.start s.len s.is)) _
-    (sym (ap₂ (λ (x y : ℕ). x % 8 * 100 + y) (byte b v s.start s.len s.is 2 (omega arith)) (byte b v s.start s.len s.is 3 (omega arith)))))
+    (code_some b s.lies s.at (omega (arith, least b v s.lies.start s.lies.len s.is)) _
+    (sym (ap₂ (λ (x y : ℕ). x % 8 * 100 + y) (byte b v s.lies.start s.lies.len s.is 2 (omega arith)) (byte b v s.lies.start s.lies.len s.is 3 (omega arith)))))
 
 -- RFC 8656 section 18.2: a LIFETIME of 4 bytes is a 32-bit number of seconds
-pub lifetime_reads : (b : List ℕ) (v : List ℕ) → looked b (get_of b 0x000D) ≡ just v → 4 ≤ length v
-    → lifetime_of b ≡ Seconds (field_at v 0 * 65536 + field_at v 2)
+pub lifetime_reads : (b : List ℕ) (v : List ℕ) → looked b (get_of b 0x000D) ≡ Some v → 4 ≤ length v
+    → lifetime_of b ≡ Some (field_at v 0 * 65536 + field_at v 2)
 lifetime_reads b v e h =
     let s = somewhere b (get_of b 0x000D) v e in
-    let at = byte b v s.start s.len s.is in
-    let zero : get_or b s.start 0 ≡ get_or v 0 0 = ap (λ (n : ℕ). get_or b n 0) (sym (add-zero s.start)) ∙ at 0 (omega arith) in
-    let one : get_or b (s.start + 1) 0 ≡ get_or v 1 0 = at 1 (omega arith) in
-    let two' : get_or b (s.start + 2) 0 ≡ get_or v 2 0 = at 2 (omega arith) in
-    let three : get_or b (s.start + 2 + 1) 0 ≡ get_or v 3 0 = ap (λ (n : ℕ). get_or b n 0) (add_assoc s.start 2 1) ∙ at 3 (omega arith) in
+    let at = byte b v s.lies.start s.lies.len s.is in
+    let zero : get_or b s.lies.start 0 ≡ get_or v 0 0 = ap (λ (n : ℕ). get_or b n 0) (sym (add-zero s.lies.start)) ∙ at 0 (omega arith) in
+    let one : get_or b (s.lies.start + 1) 0 ≡ get_or v 1 0 = at 1 (omega arith) in
+    let two' : get_or b (s.lies.start + 2) 0 ≡ get_or v 2 0 = at 2 (omega arith) in
+    let three : get_or b (s.lies.start + 2 + 1) 0 ≡ get_or v 3 0 = ap (λ (n : ℕ). get_or b n 0) (add_assoc s.lies.start 2 1) ∙ at 3 (omega arith) in
     sym
-    (lifetime_some b s.start s.len s.at (omega (arith, least b v s.start s.len s.is)) _
+    (lifetime_some b s.lies s.at (omega (arith, least b v s.lies.start s.lies.len s.is)) _
     (rw (zero, one, two', three)))

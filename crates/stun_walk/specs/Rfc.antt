@@ -1,6 +1,6 @@
 -- A message's attributes as RFC 8489 section 14 has them, written from their parts, and what they mean. The header of section
 -- 5 is `stun_message`.
-use Rattle.std.specs.Prelude.{◌≡◌, cond, List, [], ◌∷◌, ◌++◌, ℕ, ◌+◌, ◌%◌, ◌^◌, ◌<◌, eqb, length}
+use Rattle.std.specs.Prelude.{◌≡◌, cond, List, [], ◌∷◌, ◌++◌, ℕ, ◌+◌, ◌%◌, ◌^◌, ◌<◌, eqb, length, Option, Some, None}
 use Rattle.stun_frame.specs.Rfc.{two}
 
 -- section 14: an attribute's type and value, and the bytes that pad it
@@ -26,11 +26,7 @@ abbrev pub body : List Part → List ℕ
 body [] = []
 body (a ∷ more) = two a.typ ++ (two (length a.value) ++ (a.value ++ (a.pad ++ body more)))
 
-pub data Maybe : Type 0 where
-  nothing : Maybe
-  just : List ℕ → Maybe
-
 -- the first attribute of a type: "only the first occurrence needs to be processed"
-abbrev pub value_of : ℕ → List Part → Maybe
-value_of t [] = nothing
-value_of t (a ∷ more) = cond (eqb a.typ t) (just a.value) (value_of t more)
+abbrev pub value_of : ℕ → List Part → Option (List ℕ)
+value_of t [] = None
+value_of t (a ∷ more) = cond (eqb a.typ t) (Some a.value) (value_of t more)

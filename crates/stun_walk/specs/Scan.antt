@@ -1,15 +1,8 @@
--- What the one pass over a message keeps, for the private functions' contracts: the place of the first attribute of a type, 1
--- while there is none.
-use Rattle.std.specs.Prelude.{ℕ, List, [], ◌∷◌, cond, ◌&&◌, eqb}
-use Rattle.stun_walk.specs.Source.{Attribute, attributes, readable}
+-- What the one pass over a message finds, for the private function's contract: nothing where the message is not readable, else the first
+-- attribute of a type, if there is one.
+use Rattle.std.specs.Prelude.{ℕ, List, cond, Option, Some, None}
+use Rattle.stun_walk.specs.declared.Value.{Value}
+use Rattle.stun_walk.specs.Source.{attributes, readable, first}
 
-abbrev pub kept : ℕ → ℕ → ℕ → ℕ → ℕ
-kept hit typ t at = cond (eqb hit 1 && eqb typ t) at hit
-
-unfoldable pub hit_in : ℕ → ℕ → List Attribute → ℕ
-hit_in hit t [] = hit
-hit_in hit t (a ∷ more) = hit_in (kept hit a.typ t a.at) t more
-
--- 0 where the message is not readable
-unfoldable pub scanned : List ℕ → ℕ → ℕ
-scanned buf t = cond (readable buf) (hit_in 1 t (attributes buf)) 0
+unfoldable pub scanned : List ℕ → ℕ → Option (Option Value)
+scanned buf t = cond (readable buf) (Some (first t (attributes buf))) None

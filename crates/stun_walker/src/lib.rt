@@ -1,11 +1,12 @@
 // The attribute walker: a struct that holds a message and a place in it, and thin functions over it. What stands at a
-// place is said by `step_at`, which takes a plain slice and a number.
+// place is said by `step_at`, which takes a plain slice and a number. The functions are no methods: docs/PROMISES.md names `walk`, `next`,
+// `moved`, `first_step` and `step_at`, and their contracts stay.
 #![tactic(auto)]
 
-ghost use Rattle.std.specs.Prelude.{◌≡◌, ◌+◌, ◌*◌};
+ghost use Rattle.std.specs.Prelude.{◌≡◌};
 ghost use Rattle.stun_walker.specs.Source.{step_of};
 
-#[derive(Clone, Copy)]
+#[derive(Clone, Copy, PartialEq, Eq)]
 pub enum Step {
     // Its type, its value (`len` bytes from `start` on), and the place after it and its padding.
     Attribute {
@@ -27,6 +28,7 @@ pub struct Walker<'a> {
 }
 
 // What stands at a place of a message.
+#[tactic(auto, unfolding(crate::specs::Source::step_of))]
 pub fn step_at(buf: &[u8], at: usize) -> Step
     ensures { result ≡ step_of buf.now at }
 {
@@ -36,19 +38,19 @@ pub fn step_at(buf: &[u8], at: usize) -> Step
     if buf.len() - 4 < at {
         return Step::Done;
     }
-    let end = 20 + joined(buf[2], buf[3]) as usize;
+    let end = 20 + usize::from(u16::from_be_bytes([buf[2], buf[3]]));
     if end < at + 4 {
         return Step::Done;
     }
-    let len = joined(buf[at + 2], buf[at + 3]) as usize;
+    let len = usize::from(u16::from_be_bytes([buf[at + 2], buf[at + 3]]));
     if buf.len() - (at + 4) < len {
         return Step::Past;
     }
     Step::Attribute {
-        typ: joined(buf[at], buf[at + 1]),
+        typ: u16::from_be_bytes([buf[at], buf[at + 1]]),
         start: at + 4,
         len,
-        next: at + 4 + (len + 3) / 4 * 4,
+        next: at + 4 + len.div_ceil(4) * 4,
     }
 }
 
@@ -81,10 +83,4 @@ pub fn first_step(message: &[u8]) -> Step
     ensures { result ≡ step_of message.now 20 }
 {
     next(walk(message))
-}
-
-fn joined(high: u8, low: u8) -> u16
-    ensures { result ≡ high * 256 + low }
-{
-    (high as u16) * 256 + low as u16
 }

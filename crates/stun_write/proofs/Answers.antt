@@ -8,22 +8,22 @@ use native.Mathlib.Omega.{arith}
 use borrow.Author.Tests.{lt-ltb, le-ltb}
 use lib.ListN.{length, take, drop}
 use lib.Seq.{paste, take_at, drop_at, length-paste, take-length, length-take-le}
-use Rattle.stun_frame.specs.declared.Written.{Written}
-use Rattle.stun_frame.specs.declared.Written.TheVariants.{Bytes, TooLong, NoRoom}
-use Rattle.stun_frame.specs.Source.{room_after}
+use Rattle.std.specs.Prelude.{Ok, Err}
+use Rattle.stun_frame.specs.declared.Unwritten.TheVariants.{TooLong, NoRoom}
+use Rattle.stun_frame.specs.Source.{Written, room_after}
 use Rattle.stun_frame.proofs.Reading.{compared}
 use Rattle.stun_write.specs.Source.{push_attr, attr_size, key_of, encoded, sealed_size, fitted, fitted_attr, Left, Pushed, Sealed, Encoded}
 use Rattle.stun_write.proofs.Places.{drop_past}
 
-is_long : (size room : ℕ) → 65555 < size → fitted size room ≡ TooLong
+is_long : (size room : ℕ) → 65555 < size → fitted size room ≡ Err TooLong
 unfolding fitted
 is_long size room h = rw (lt-ltb 65555 size h)
 
-is_narrow : (size room : ℕ) → size ≤ 65555 → room < size → fitted size room ≡ NoRoom
+is_narrow : (size room : ℕ) → size ≤ 65555 → room < size → fitted size room ≡ Err NoRoom
 unfolding fitted
 is_narrow size room h g = rw (le-ltb 65555 size h, lt-ltb room size g)
 
-pub is_bytes : (size room : ℕ) → size ≤ 65555 → size ≤ room → fitted size room ≡ Bytes size
+pub is_bytes : (size room : ℕ) → size ≤ 65555 → size ≤ room → fitted size room ≡ Ok size
 unfolding fitted
 is_bytes size room h g = rw (le-ltb 65555 size h, le-ltb room size g)
 
@@ -31,7 +31,7 @@ attr_short : (v : List ℕ) (size room : ℕ) → length v ≤ 65535 → fitted_
 unfolding fitted_attr
 attr_short v size room h = rw (le-ltb 65535 (length v) h)
 
-attr_long : (v : List ℕ) (size room : ℕ) → 65535 < length v → fitted_attr v size room ≡ TooLong
+attr_long : (v : List ℕ) (size room : ℕ) → 65535 < length v → fitted_attr v size room ≡ Err TooLong
 unfolding fitted_attr
 attr_long v size room h = rw (lt-ltb 65535 (length v) h)
 
@@ -43,37 +43,37 @@ equations {due} {a} {m} {out} l = (l.answered, l.left ∙ ap (λ (d : Written). 
 pub from_equations : {due a : Written} {m out after : List ℕ} → (a ≡ due) × (after ≡ room_after a m out) → Left due m out a after
 from_equations {due} {a} {m} {out} e = record { answered = e.0; left = e.1 ∙ ap (λ (d : Written). room_after d m out) e.0 }
 
-left_long : {due : Written} (m out : List ℕ) → due ≡ TooLong → Left due m out TooLong out
+left_long : {due : Written} (m out : List ℕ) → due ≡ Err TooLong → Left due m out (Err TooLong) out
 left_long m out e = record { answered = sym e; left = rw e }
 
-left_narrow : {due : Written} (m out : List ℕ) → due ≡ NoRoom → Left due m out NoRoom out
+left_narrow : {due : Written} (m out : List ℕ) → due ≡ Err NoRoom → Left due m out (Err NoRoom) out
 left_narrow m out e = record { answered = sym e; left = rw e }
 
-left_bytes : {due : Written} (m out after : List ℕ) (n : ℕ) → due ≡ Bytes n → after ≡ m ++ drop n out → Left due m out (Bytes n) after
+left_bytes : {due : Written} (m out after : List ℕ) (n : ℕ) → due ≡ Ok n → after ≡ m ++ drop n out → Left due m out (Ok n) after
 left_bytes m out after n e f = record { answered = sym e; left = f ∙ rw e }
 
 module _ (out m : List ℕ) (size : ℕ) where
-  pub too_long : 65555 < size → Left (fitted size (length out)) m out TooLong out
+  pub too_long : 65555 < size → Left (fitted size (length out)) m out (Err TooLong) out
   too_long h = left_long m out (is_long size (length out) h)
 
-  pub no_room : size ≤ 65555 → length out < size → Left (fitted size (length out)) m out NoRoom out
+  pub no_room : size ≤ 65555 → length out < size → Left (fitted size (length out)) m out (Err NoRoom) out
   no_room h g = left_narrow m out (is_narrow size (length out) h g)
 
-  pub written : (n : ℕ) (after : List ℕ) → n ≡ size → size ≤ 65555 → size ≤ length out → after ≡ m ++ drop n out → Left (fitted size (length out)) m out (Bytes n) after
-  written n after e h g f = left_bytes m out after n (is_bytes size (length out) h g ∙ ap Bytes (sym e)) f
+  pub written : (n : ℕ) (after : List ℕ) → n ≡ size → size ≤ 65555 → size ≤ length out → after ≡ m ++ drop n out → Left (fitted size (length out)) m out (Ok n) after
+  written n after e h g f = left_bytes m out after n (is_bytes size (length out) h g ∙ ap Ok (sym e)) f
 
 module _ (out : List ℕ) (at t : ℕ) (v : List ℕ) where
-  pub value_too_long : 65535 < length v → Pushed out at t v TooLong out
+  pub value_too_long : 65535 < length v → Pushed out at t v (Err TooLong) out
   value_too_long h = left_long _ out (attr_long v _ _ h)
 
-  pub attr_too_long : length v ≤ 65535 → 65555 < at + attr_size (length v) → Pushed out at t v TooLong out
+  pub attr_too_long : length v ≤ 65535 → 65555 < at + attr_size (length v) → Pushed out at t v (Err TooLong) out
   attr_too_long h g = left_long _ out (attr_short v _ _ h ∙ is_long _ _ g)
 
-  pub attr_no_room : length v ≤ 65535 → at + attr_size (length v) ≤ 65555 → length out < at + attr_size (length v) → Pushed out at t v NoRoom out
+  pub attr_no_room : length v ≤ 65535 → at + attr_size (length v) ≤ 65555 → length out < at + attr_size (length v) → Pushed out at t v (Err NoRoom) out
   attr_no_room h g w = left_narrow _ out (attr_short v _ _ h ∙ is_narrow _ _ g w)
 
   pub attr_written : (after : List ℕ) → length v ≤ 65535 → at + attr_size (length v) ≤ 65555 → at + attr_size (length v) ≤ length out
-      → after ≡ take at out ++ push_attr t v ++ drop (at + attr_size (length v)) out → Pushed out at t v (Bytes (at + attr_size (length v))) after
+      → after ≡ take at out ++ push_attr t v ++ drop (at + attr_size (length v)) out → Pushed out at t v (Ok (at + attr_size (length v))) after
   attr_written after h g w e = left_bytes _ out after _ (attr_short v _ _ h ∙ is_bytes _ _ g w) e
 
 -- a body that was put behind the header's place, and then sealed
@@ -89,10 +89,10 @@ copied out o body id key after typ sign fingerprint answer p g w r =
     ap (drop 20) p ∙ ap (λ (l : List ℕ). drop 20 l) (append_assoc (take 20 out) (take (length body) body) (drop (20 + length body) out))
     ∙ drop_at (take 20 out) _ 20 (length-take-le 20 out (omega arith)) ∙ ap (λ (l : List ℕ). l ++ drop (20 + length body) out) (take-length body) in
     let b₁ : take (20 + length body - 20) (drop 20 o) ≡ body = ap (λ (k : ℕ). take k (drop 20 o)) n ∙ ap (take (length body)) b₀ ∙ take_at body _ (length body) refl in
-    let d₀ : fitted (sealed_size (20 + length body - 20) sign fingerprint) (length o) ≡ Bytes size =
+    let d₀ : fitted (sealed_size (20 + length body - 20) sign fingerprint) (length o) ≡ Ok size =
     ap₂ (λ (k l : ℕ). fitted (sealed_size k sign fingerprint) l) n lo ∙ is_bytes size (length out) g w in
     let d₁ : drop size o ≡ drop size out = ap (drop size) p ∙ drop_past out 20 body size (omega arith) w in
-    let due : fitted size (length out) ≡ Bytes size = is_bytes size (length out) g w in
+    let due : fitted size (length out) ≡ Ok size = is_bytes size (length out) g w in
     record {
       answered = r.answered ∙ d₀ ∙ sym due;
       left =
@@ -107,14 +107,14 @@ pub sealed_as : (out body id key after : List ℕ) (end typ : ℕ) (sign fingerp
     → Sealed out end typ id key sign fingerprint answer after → Encoded out typ id body key sign fingerprint answer after
 sealed_as out body id key after end typ sign fingerprint answer e n r = rw (← n, ← e) r
 
--- an answer `Bytes`: its length fits, and all of the message stands in front
-not_long : (n : ℕ) → Bytes n ≡ TooLong → ⊥
+-- an answer `Ok`: its length fits, and all of the message stands in front
+not_long : (n : ℕ) → ◌≡◌ {A = Written} (Ok n) (Err TooLong) → ⊥
 not_long n e = let z : ◌≡◌ {A = ℕ} 0 1 = cc in omega arith
 
-not_narrow : (n : ℕ) → Bytes n ≡ NoRoom → ⊥
+not_narrow : (n : ℕ) → ◌≡◌ {A = Written} (Ok n) (Err NoRoom) → ⊥
 not_narrow n e = let z : ◌≡◌ {A = ℕ} 0 1 = cc in omega arith
 
-pub was_written : {size n : ℕ} {m out after : List ℕ} → Left (fitted size (length out)) m out (Bytes n) after
+pub was_written : {size n : ℕ} {m out after : List ℕ} → Left (fitted size (length out)) m out (Ok n) after
     → (size ≤ 65555) × (n ≡ size) × (after ≡ m ++ drop n out)
 was_written {size} {n} {m} {out} {after} w = go (compared 65555 size) (compared (length out) size)
   where
@@ -122,17 +122,17 @@ was_written {size} {n} {m} {out} {after} w = go (compared 65555 size) (compared 
     go (inl h) g = absurd (not_long n (w.answered ∙ is_long size (length out) h))
     go (inr h) (inl g) = absurd (not_narrow n (w.answered ∙ is_narrow size (length out) h g))
     go (inr h) (inr g) =
-        let f : Bytes n ≡ Bytes size = w.answered ∙ is_bytes size (length out) h g in
+        let f : ◌≡◌ {A = Written} (Ok n) (Ok size) = w.answered ∙ is_bytes size (length out) h g in
         (h, cc, w.left ∙ ap (λ (d : Written). room_after d m out) (sym w.answered))
 
-pub was_pushed : (out : List ℕ) (at t : ℕ) (v : List ℕ) {n : ℕ} {after : List ℕ} → Pushed out at t v (Bytes n) after
+pub was_pushed : (out : List ℕ) (at t : ℕ) (v : List ℕ) {n : ℕ} {after : List ℕ} → Pushed out at t v (Ok n) after
     → (length v ≤ 65535) × (n ≡ at + attr_size (length v)) × (after ≡ take at out ++ push_attr t v ++ drop n out)
 was_pushed out at t v {n} {after} w = go (compared 65535 (length v))
   where
     go : (65535 < length v) ⊎ (length v ≤ 65535) → (length v ≤ 65535) × (n ≡ at + attr_size (length v)) × (after ≡ take at out ++ push_attr t v ++ drop n out)
     go (inl h) = absurd (not_long n (w.answered ∙ attr_long v _ _ h))
     go (inr h) =
-        let l : Left (fitted (at + attr_size (length v)) (length out)) (take at out ++ push_attr t v) out (Bytes n) after = rw (attr_short v (at + attr_size (length v)) (length out) h) at w in
+        let l : Left (fitted (at + attr_size (length v)) (length out)) (take at out ++ push_attr t v) out (Ok n) after = rw (attr_short v (at + attr_size (length v)) (length out) h) at w in
         (h, (was_written l).1, (was_written l).2)
 
 -- a contract leaves one answer and one room

@@ -14,7 +14,7 @@ use Rattle.sha1_digest.specs.Rfc3174.{sha1}
 use Rattle.crc32.specs.Crc.{crc32}
 use Rattle.crc32.proofs.Join.{crc32_lt}
 use Rattle.stun_frame.specs.Source.{padding}
-use Rattle.stun_frame.specs.declared.Written.TheVariants.{Bytes}
+use Rattle.std.specs.Prelude.{Ok}
 use Rattle.stun_write.specs.Source.{push_attr, Attribute, attributes, header, encoded, integrity, fingerprint_of, fingerprint, key_of, integrity_size, fingerprint_size, sealed_size, Encoded}
 use Rattle.stun_write.specs.Rfc.{Padding, Sent, sent, SentAll, none, more, Integrated, Fingerprinted, Message}
 use Rattle.stun_write.proofs.Lengths.{length-push_attr, length-hmac, length-integrity, length-fingerprint, length-encoded}
@@ -100,9 +100,9 @@ module _ (typ : ℕ) (id : List ℕ) where
         whole = encoded_is typ id ided body (key_of sign key) f;
       }
 
-  -- what `encode` leaves in front on `Bytes n` is such a message, and so `seal` (`sealed_as` of Answers)
+  -- what `encode` leaves in front on `Ok n` is such a message, and so `seal` (`sealed_as` of Answers)
   pub left_meets : (attrs : List Attribute) (key out after : List ℕ) (sign f : Bool) (n : ℕ) → typ < 2 ^ 14 → length id ≡ 12
-      → Encoded out typ id (attributes attrs) key sign f (Bytes n) after → Message typ id attrs (key_of sign key) f (take n after)
+      → Encoded out typ id (attributes attrs) key sign f (Ok n) after → Message typ id attrs (key_of sign key) f (take n after)
   left_meets attrs key out after sign f n top ided w =
       let m : List ℕ = encoded typ id (attributes attrs) (key_of sign key) f in
       let r = was_written w in

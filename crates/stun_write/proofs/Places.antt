@@ -2,13 +2,16 @@
 -- the header, an attribute, MESSAGE-INTEGRITY and FINGERPRINT at their place.
 use mathlib.Core.Path.{◌≡◌, refl, sym, ap, ap₂, ◌∙◌}
 use mathlib.Core.Bool.{Bool, true, false, cond}
-use mathlib.Core.List.{List, [], ◌++◌, append_assoc}
-use Prim.Native.Nat.{ℕ, ◌+◌, ◌-◌, ◌≤◌}
-use native.Mathlib.Nat.{add-sub_of_le, sub-zero, add_assoc, add-zero}
+use mathlib.Core.List.{List, ◌++◌, append_assoc}
+use Prim.Native.Nat.{ℕ, ◌+◌, ◌-◌, ◌^◌, ◌≤◌, ◌<◌}
+use native.Mathlib.Nat.{add-sub_of_le, sub-zero, add-zero}
 use native.Mathlib.Omega.{arith}
-use lib.ListN.{length, take, drop, replicate, length-append, length-replicate, replicate-append-replicate, take-append-drop, length-drop}
+use lib.ListN.{length, take, drop, replicate, length-append, take-append-drop, length-drop}
 use lib.Bits.{bit_xor}
-use lib.Seq.{paste, take_at, drop_at, drop-append-add, take-append-add, take-append-le, drop-append-le, drop-drop, take-length, take-take, take-add, length-take-le, length_paste_head}
+use borrow.Rule.Slice.PartMut.{put_mid}
+use Rattle.std.specs.Int.{w16, to_be_bytes}
+use Rattle.stun_frame.proofs.Writing.{next, two_bytes}
+use lib.Seq.{paste, take_at, drop_at, drop-append-add, take-append-add, take-append-le, drop-append-le, drop-drop, take-take, take-add, length-take-le, length_paste_head}
 use Rattle.digest.specs.Bytes.{bytes, big}
 use Rattle.digest.specs.Hmac.{hmac}
 use Rattle.sha1_digest.specs.Rfc3174.{sha1}
@@ -20,10 +23,6 @@ use Rattle.stun_write.proofs.Lengths.{length-hmac, length-with_integrity, length
 -- the size of an addition that is asked for
 pub asked : {b : Bool} (k : ℕ) → b ≡ true → cond b k 0 ≡ k
 asked k e = rw e
-
--- a part that is put where the last one ended
-next : (p q s : List ℕ) (at : ℕ) → length p ≡ at → paste (p ++ q) at s (length s) ≡ (p ++ s) ++ drop (length s) q
-next p q s at e = rw (← e, take_at p q (length p) refl, take-length, drop-append-add)
 
 -- what lies behind a part that was put over the front
 pub behind : (m o : List ℕ) (a k : ℕ) → length m ≡ a → drop (a + k) (m ++ drop a o) ≡ drop (a + k) o
@@ -57,45 +56,32 @@ module _ (d : List ℕ) (at : ℕ) (s : List ℕ) (k : ℕ) (within : at + lengt
   drop_past =
       ap (λ (n : ℕ). drop n (paste d at s (length s))) (sym sum) ∙ behind front d (at + length s) rest front_length ∙ ap (λ (n : ℕ). drop n d) sum
 
--- the two puts of the header
-pub begun : (typ : ℕ) (id out o₁ o₂ : List ℕ) → length id ≡ 12 → o₁ ≡ paste out 0 (header typ 0 []) 8 → o₂ ≡ paste o₁ 8 id (length id)
-    → o₂ ≡ header typ 0 id ++ drop 20 out
-begun typ id out o₁ o₂ e p q =
-    let p' : o₁ ≡ header typ 0 [] ++ drop 8 out = p ∙ next [] out (header typ 0 []) 0 refl in
-    q ∙ ap (λ (l : List ℕ). paste l 8 id (length id)) p' ∙ next (header typ 0 []) (drop 8 out) id 8 refl
-    ∙ ap (λ (l : List ℕ). header typ 0 id ++ l) (drop-drop (length id) 8 out ∙ ap (λ (k : ℕ). drop (8 + k) out) e)
-
-abbrev zeros : ℕ → List ℕ
-zeros n = replicate n 0
-
-take-zeros : (n k : ℕ) → k ≤ n → take (k - 0) (zeros n) ≡ zeros k
-take-zeros n k h =
-    ap (λ (m : ℕ). take m (zeros n)) (sub-zero k) ∙ ap (λ (m : ℕ). take k (zeros m)) (sym (add-sub_of_le h)) ∙ ap (take k) (sym (replicate-append-replicate k (n - k) 0)) ∙ take_at _ _ k (length-replicate k 0)
-
--- three parts, one after the other
-three : (h v z out o₁ o₂ o₃ : List ℕ) (at : ℕ) → at ≤ length out → o₁ ≡ paste out at h (length h) → o₂ ≡ paste o₁ (at + length h) v (length v)
-    → o₃ ≡ paste o₂ (at + length h + length v) z (length z) → o₃ ≡ take at out ++ (h ++ v ++ z) ++ drop (at + (length h + length v + length z)) out
-three h v z out o₁ o₂ o₃ at le p q r =
-    let t : List ℕ = take at out in
-    let lt : length t ≡ at = length-take-le at out le in
-    let s : out ≡ t ++ drop at out = sym (take-append-drop at out) in
-    let p' : o₁ ≡ (t ++ h) ++ drop (length h) (drop at out) = p ∙ ap (λ (l : List ℕ). paste l at h (length h)) s ∙ next t (drop at out) h at lt in
-    let q' : o₂ ≡ (t ++ h ++ v) ++ drop (length v) (drop (length h) (drop at out)) =
-    q ∙ ap (λ (l : List ℕ). paste l (at + length h) v (length v)) p' ∙ next (t ++ h) _ v (at + length h) (rw (length-append, lt)) in
-    r ∙ ap (λ (l : List ℕ). paste l (at + length h + length v) z (length z)) q'
-    ∙ next (t ++ h ++ v) _ z (at + length h + length v) (rw (length-append, length-append, lt))
-    ∙ simp (drop-drop, append_assoc, add_assoc)
-
--- the three puts of an attribute
-pub attr_put : (t : ℕ) (v out o₁ o₂ o₃ : List ℕ) (at k : ℕ) → at ≤ length out → k ≡ padding (length v)
-    → o₁ ≡ paste out at (to_be t ++ to_be (length v)) 4 → o₂ ≡ paste o₁ (at + 4) v (length v)
-    → o₃ ≡ paste o₂ (at + 4 + length v) (take (k - 0) (zeros 4)) (length (take (k - 0) (zeros 4)))
-    → o₃ ≡ take at out ++ push_attr t v ++ drop (at + attr_size (length v)) out
+-- the four parts of an attribute
+pub attr_put : (t : ℕ) (v out h l d z : List ℕ) (at j₁ j₂ k m r : ℕ) → t < 2 ^ 16 → length v ≤ 65535 → at ≤ length out
+    → h ≡ to_be_bytes w16 t → l ≡ to_be_bytes w16 (length v) → d ≡ v → z ≡ replicate r 0 → j₁ ≡ 2 → j₂ ≡ 2 → k ≡ length v → m ≡ padding (length v) → r ≡ m
+    → put_mid (at + 4 + length v) m (put_mid (at + 4) k (put_mid (at + 2) j₂ (put_mid at j₁ out h) l) d) z
+    ≡ take at out ++ push_attr t v ++ drop (at + attr_size (length v)) out
 unfolding push_attr
-attr_put t v out o₁ o₂ o₃ at k le e p q r =
-    let z : take (k - 0) (zeros 4) ≡ zeros (padding (length v)) = take-zeros 4 k (omega arith) ∙ ap zeros e in
-    let m : length (zeros (padding (length v))) ≡ padding (length v) = length-replicate _ 0 in
-    three (to_be t ++ to_be (length v)) v (take (k - 0) (zeros 4)) out o₁ o₂ o₃ at le p q r ∙ rw (z, m)
+attr_put t v out h l d z at j₁ j₂ k m r f g le eh el ed ez e₁ e₂ ek em er =
+    let s : List ℕ = take at out in
+    let n : length s ≡ at = length-take-le at out le in
+    let eh' : h ≡ to_be t = eh ∙ two_bytes t f in
+    let el' : l ≡ to_be (length v) = el ∙ two_bytes (length v) (omega arith) in
+    let nh : length h ≡ 2 = ap length eh' in
+    let nl : length l ≡ 2 = ap length el' in
+    let nd : length d ≡ length v = ap length ed in
+    let ez' : z ≡ replicate (padding (length v)) 0 = ez ∙ ap (λ (i : ℕ). replicate i 0) (er ∙ em) in
+    let p : put_mid (at + 4 + length v) m (put_mid (at + 4) k (put_mid (at + 2) j₂ (put_mid at j₁ out h) l) d) z
+    ≡ (s ++ h ++ l ++ d ++ z) ++ drop m (drop k (drop j₂ (drop j₁ (drop at out)))) =
+    next (s ++ h ++ l ++ d) _ z _ (at + 4 + length v) m
+    (next (s ++ h ++ l) _ d _ (at + 4) k
+    (next (s ++ h) _ l _ (at + 2) j₂ (next s (drop at out) h out at j₁ (sym (take-append-drop at out)) n) (rw (length-append, n, nh)))
+    (rw (length-append, length-append, n, nh, nl) (omega arith)))
+    (rw (length-append, length-append, length-append, n, nh, nl, nd) (omega arith)) in
+    let q : drop m (drop k (drop j₂ (drop j₁ (drop at out)))) ≡ drop (at + attr_size (length v)) out =
+    rw (drop-drop, drop-drop, drop-drop, drop-drop) (ap (λ (i : ℕ). drop i out) (omega arith)) in
+    let w : s ++ h ++ l ++ d ++ z ≡ s ++ (h ++ l ++ d ++ z) = simp append_assoc in
+    p ∙ ap₂ {C = List ℕ} (λ x y. x ++ y) w q ∙ rw (eh', el', ed, ez')
 
 -- the length field is set in front of what stands at `at`, and a part follows
 appended : (n at k : ℕ) (a out o₁ o₂ : List ℕ) → 4 ≤ at → at ≤ length out → o₁ ≡ set_length n out → o₂ ≡ take at o₁ ++ a ++ drop (at + k) o₁ → at + k ≤ length out

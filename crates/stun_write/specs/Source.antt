@@ -1,14 +1,13 @@
 -- What stun.rs does when it writes, line by line, under its names: `push_attr` and `Message::encode`. The port adds room that is
 -- lent and its two refusals; where a length is over 65,535 it refuses, so that `as u16` is the number itself.
-use Rattle.std.specs.Prelude.{◌≡◌, Bool, true, false, cond, List, [], ◌∷◌, ◌++◌, ℕ, ◌+◌, ◌-◌, length, take, drop, replicate, ltb}
+use Rattle.std.specs.Prelude.{◌≡◌, Bool, true, false, cond, List, [], ◌∷◌, ◌++◌, ℕ, ◌+◌, ◌-◌, length, take, drop, replicate, ltb, Ok, Err}
 use Rattle.std.specs.Int.Bits.{bit_xor}
 use Rattle.digest.specs.Bytes.{bytes, big}
 use Rattle.digest.specs.Hmac.{hmac}
 use Rattle.sha1_digest.specs.Rfc3174.{sha1}
 use Rattle.crc32.specs.Crc.{crc32}
-use Rattle.stun_frame.specs.declared.Written.{Written}
-use Rattle.stun_frame.specs.declared.Written.TheVariants.{Bytes, TooLong, NoRoom}
-use Rattle.stun_frame.specs.Source.{to_be, padding, room_after}
+use Rattle.stun_frame.specs.declared.Unwritten.TheVariants.{TooLong, NoRoom}
+use Rattle.stun_frame.specs.Source.{to_be, padding, Written, room_after}
 
 -- push_attr(out, t, v): what it appends
 unfoldable pub push_attr : ℕ → List ℕ → List ℕ
@@ -93,13 +92,13 @@ sealed_size n sign fingerprint = 20 + n + integrity_size sign + fingerprint_size
 
 -- the answer for a message of `size` bytes: over 65,535 bytes after the header the length would not fit its field; then the room
 unfoldable pub fitted : ℕ → ℕ → Written
-fitted size room = cond (ltb 65555 size) TooLong (cond (ltb room size) NoRoom (Bytes size))
+fitted size room = cond (ltb 65555 size) (Err TooLong) (cond (ltb room size) (Err NoRoom) (Ok size))
 
 -- the same for an attribute that ends at `size`
 unfoldable pub fitted_attr : List ℕ → ℕ → ℕ → Written
-fitted_attr v size room = cond (ltb 65535 (length v)) TooLong (fitted size room)
+fitted_attr v size room = cond (ltb 65535 (length v)) (Err TooLong) (fitted size room)
 
--- what an answer leaves: the message in front on `Bytes`, nothing changed otherwise
+-- what an answer leaves: the message in front on `Ok`, nothing changed otherwise
 pub record Left (due : Written) (message out : List ℕ) (answer : Written) (after : List ℕ) : Type 0 where
   pub answered : answer ≡ due
   pub left : after ≡ room_after due message out

@@ -3,34 +3,33 @@
 #![tactic(auto)]
 
 ghost use Rattle.std.specs.Prelude.{◌≡◌, ◌++◌, ◌+◌, ◌-◌, ◌≤◌, ◌<◌, length, take, drop};
-ghost use Rattle.std.proofs.Math.Seq.{paste};
 ghost use Rattle.stun_frame.specs.Source.{room_after};
 ghost use Rattle.stun_write.specs.Source.{push_attr as «attr_bytes», attr_size, header, set_length as «length-set», key_of, with_integrity, with_fingerprint, integrity_size, fingerprint_size, encoded, sealed_size, fitted, fitted_attr};
 
-use stun_frame::Written;
+use stun_frame::Unwritten;
 use stun_frame::names::{ATTR_FINGERPRINT, ATTR_MESSAGE_INTEGRITY};
 
 // An attribute at the place `at`: type, length, value, zeros to a multiple of four. The answer is the place after it.
-pub fn push_attr(out: &mut [u8], at: usize, typ: u16, value: &[u8]) -> Written
+pub fn push_attr(out: &mut [u8], at: usize, typ: u16, value: &[u8]) -> Result<usize, Unwritten>
     ensures { (result ≡ fitted_attr value.now (at + attr_size (length value.now)) (length out.old))
         × (out.new ≡ room_after result (take at out.old ++ «attr_bytes» typ value.now) out.old) }
 {
     let n = value.len();
     if 65535 < n {
-        return Written::TooLong;
+        return Err(Unwritten::TooLong);
     }
     let size = 4 + n + (4 - n % 4) % 4;
     if 65555 < at {
-        return Written::TooLong;
+        return Err(Unwritten::TooLong);
     }
     if 65555 < at + size {
-        return Written::TooLong;
+        return Err(Unwritten::TooLong);
     }
     if out.len() < at + size {
-        return Written::NoRoom;
+        return Err(Unwritten::NoRoom);
     }
     attr(out, at, typ, value);
-    Written::Bytes(at + size)
+    Ok(at + size)
 }
 
 // Header, integrity and FINGERPRINT around the attributes that stand in out[20..end]. The answer is the message's size.
@@ -42,23 +41,23 @@ pub fn seal(
     key: &[u8],
     signed: bool,
     fingerprint: bool,
-) -> Written
+) -> Result<usize, Unwritten>
     ensures { (result ≡ fitted (sealed_size (end - 20) signed fingerprint) (length out.old))
         × (out.new ≡ room_after result (encoded typ id (take (end - 20) (drop 20 out.old)) (key_of signed key.now) fingerprint) out.old) }
 {
-    let at = after_header(end);
+    let at = end.max(20);
     let more = added(signed, fingerprint);
     if 65555 - more < at {
-        return Written::TooLong;
+        return Err(Unwritten::TooLong);
     }
     if out.len() < at + more {
-        return Written::NoRoom;
+        return Err(Unwritten::NoRoom);
     }
     begin(out, typ, id);
     let a = sign(out, at, key, signed);
     let b = mark(out, a, fingerprint);
     set_length(out, b - 20);
-    Written::Bytes(b)
+    Ok(b)
 }
 
 // The same for attributes that lie elsewhere.
@@ -70,58 +69,27 @@ pub fn encode(
     key: &[u8],
     signed: bool,
     fingerprint: bool,
-) -> Written
+) -> Result<usize, Unwritten>
     ensures { (result ≡ fitted (sealed_size (length body.now) signed fingerprint) (length out.old))
         × (out.new ≡ room_after result (encoded typ id body.now (key_of signed key.now) fingerprint) out.old) }
 {
     let n = body.len();
     let more = added(signed, fingerprint);
     if 65535 - more < n {
-        return Written::TooLong;
+        return Err(Unwritten::TooLong);
     }
     if out.len() < 20 + n + more {
-        return Written::NoRoom;
+        return Err(Unwritten::NoRoom);
     }
-    put(out, 20, body);
+    out[20..20 + n].copy_from_slice(body);
     seal(out, 20 + n, typ, id, key, signed, fingerprint)
-}
-
-// The place `end`, or the header's end where that is later.
-fn after_header(end: usize) -> usize
-    ensures { result ≡ 20 + (end - 20) }
-{
-    if end < 20 {
-        return 20;
-    }
-    end
 }
 
 // The bytes that integrity and FINGERPRINT add.
 fn added(signed: bool, fingerprint: bool) -> usize
     ensures { (result ≡ integrity_size signed + fingerprint_size fingerprint) × (result ≤ 32) }
 {
-    if signed {
-        if fingerprint {
-            return 32;
-        }
-        return 24;
-    }
-    if fingerprint {
-        return 8;
-    }
-    0
-}
-
-// `part` over what stands at `at`.
-fn put(out: &mut [u8], at: usize, part: &[u8])
-    requires { at + length part.now ≤ length out.old }
-    ensures { out.new ≡ paste out.old at part.now (length part.now) }
-{
-    let mut i = 0;
-    while i < part.len() {
-        out[at + i] = part[i];
-        i += 1;
-    }
+    24 * usize::from(signed) + 8 * usize::from(fingerprint)
 }
 
 // The length field.
@@ -129,8 +97,7 @@ fn set_length(out: &mut [u8], n: usize)
     requires { (n < 65536) × (4 ≤ length out.old) }
     ensures { out.new ≡ «length-set» n out.old }
 {
-    let field = [(n / 256) as u8, (n % 256) as u8];
-    put(out, 2, &field);
+    out[2..4].copy_from_slice(&(n as u16).to_be_bytes());
 }
 
 // The header, with a length of 0.
@@ -138,36 +105,23 @@ fn begin(out: &mut [u8], typ: u16, id: [u8; 12])
     requires { 20 ≤ length out.old }
     ensures { out.new ≡ header typ 0 id ++ drop 20 out.old }
 {
-    let head = [
-        (typ / 256) as u8,
-        (typ % 256) as u8,
-        0,
-        0,
-        0x21,
-        0x12,
-        0xA4,
-        0x42,
-    ];
-    put(out, 0, &head);
-    put(out, 8, &id);
+    out[0..2].copy_from_slice(&typ.to_be_bytes());
+    out[2..8].copy_from_slice(&[0, 0, 0x21, 0x12, 0xA4, 0x42]);
+    out[8..20].copy_from_slice(&id);
 }
 
-// An attribute, where there is room for it.
+// An attribute, where there is room for it. ChannelData is laid out alike, but `encode_channel_data` tests the room again and
+// answers, and that answer would have to be thrown away here.
 fn attr(out: &mut [u8], at: usize, typ: u16, value: &[u8])
     requires { (length value.now ≤ 65535) × (at + attr_size (length value.now) ≤ length out.old) }
     ensures { out.new ≡ take at out.old ++ «attr_bytes» typ value.now ++ drop (at + attr_size (length value.now)) out.old }
 {
     let n = value.len();
-    let head = [
-        (typ / 256) as u8,
-        (typ % 256) as u8,
-        (n / 256) as u8,
-        (n % 256) as u8,
-    ];
-    let zeros = [0u8; 4];
-    put(out, at, &head);
-    put(out, at + 4, value);
-    put(out, at + 4 + n, &zeros[0..(4 - n % 4) % 4]);
+    let end = at + 4 + n;
+    out[at..at + 2].copy_from_slice(&typ.to_be_bytes());
+    out[at + 2..at + 4].copy_from_slice(&(n as u16).to_be_bytes());
+    out[at + 4..end].copy_from_slice(value);
+    out[end..end + (4 - n % 4) % 4].fill(0);
 }
 
 // MESSAGE-INTEGRITY behind the message in out[0..at], where it is asked for: the length field counts it, then the code is taken.

@@ -8,6 +8,8 @@ use Prim.Native.Nat.{ℕ, zero, suc, ◌+◌, ◌-◌, ◌≤◌, ◌<◌}
 use native.Mathlib.Omega.{arith}
 use lib.ListN.{length, take, drop, length-append, length-drop}
 use lib.Seq.{take-append-le, drop-append-le}
+use Rattle.tape.specs.declared.Stage.{Stage}
+use Rattle.tape.specs.declared.Stage.TheVariants.{NeedsUsername}
 use Rattle.tape.specs.declared.Front.{Front}
 use Rattle.tape.specs.declared.Front.TheVariants.{Field, More, End, Bad}
 use Rattle.tape.specs.Tape.{meaning, later, piece, read_from, read}
@@ -17,7 +19,7 @@ use Rattle.tape.proofs.Fields.{compared, size, front_long, front_cut, front_whol
 use Rattle.tape.proofs.Listing.{field}
 use Rattle.tape.proofs.Sizes.{Fine, fine}
 
-pub longer : (stage : ℕ) (w more : List ℕ) (ended : Bool) → (next_of stage w false ≡ More → ⊥) → next_of stage (w ++ more) ended ≡ next_of stage w false
+pub longer : (stage : Stage) (w more : List ℕ) (ended : Bool) → (next_of stage w false ≡ More → ⊥) → next_of stage (w ++ more) ended ≡ next_of stage w false
 unfolding next_of
 longer stage [] more ended h = absurd (h refl)
 longer stage (tag ∷ []) more ended h = absurd (h refl)
@@ -36,7 +38,7 @@ longer stage (tag ∷ high ∷ low ∷ r) more ended h = go (compared 4096 (size
         ∙ ap (λ (body : List ℕ). answer (meaning stage tag body) s) (take-append-le s r more g) ∙ sym (front_whole stage tag high low r false l g)
 
 -- one field of the definition, where there are fields enough
-one_read : (m stage at : ℕ) (w : List ℕ) (f : Front) → length w ≤ m → next_of stage w true ≡ f
+one_read : (m : ℕ) (stage : Stage) (at : ℕ) (w : List ℕ) (f : Front) → length w ≤ m → next_of stage w true ≡ f
     → read_from m stage at w ≡ step f at w (read_from (m - 1) (later stage) (at + behind f) (drop (behind f) w))
 unfolding read_from next_of
 one_read m stage at w f h e = go m w h ∙ ap (λ (x : Front). step x at w (read_from (m - 1) (later stage) (at + behind x) (drop (behind x) w))) e
@@ -54,11 +56,11 @@ one_read m stage at w f h e = go m w h ∙ ap (λ (x : Front). step x at w (read
 
 -- what n answers give, where n is enough
 abbrev Claim : ℕ → Type 0
-Claim n = (stage at m : ℕ) (w : List ℕ) (parts : List (List ℕ)) → length (w ++ joined parts) + length parts < n → length (w ++ joined parts) ≤ m
+Claim n = (stage : Stage) (at m : ℕ) (w : List ℕ) (parts : List (List ℕ)) → length (w ++ joined parts) + length parts < n → length (w ++ joined parts) ≤ m
     → streamed n stage at w parts ≡ read_from m stage at (w ++ joined parts)
 
 -- an answer is the same with what has not come yet behind the window
-settled : (n : ℕ) → Claim n → (stage at m : ℕ) (w : List ℕ) (parts : List (List ℕ)) (ended : Bool) (f : Front) → Fine w ended f
+settled : (n : ℕ) → Claim n → (stage : Stage) (at m : ℕ) (w : List ℕ) (parts : List (List ℕ)) (ended : Bool) (f : Front) → Fine w ended f
     → length (w ++ joined parts) + length parts < suc n → length (w ++ joined parts) ≤ m
     → step f at w (streamed n (later stage) (at + behind f) (drop (behind f) w) parts)
     ≡ step f at (w ++ joined parts) (read_from (m - 1) (later stage) (at + behind f) (drop (behind f) (w ++ joined parts)))
@@ -99,9 +101,9 @@ one_more n claim stage at m w (p ∷ ps) h g = go (next_of stage w false) refl
         let a : (w ++ p) ++ joined ps ≡ all = append_assoc w p (joined ps) in
         let l = ap length a in
         claim stage at m (w ++ p) ps (omega (arith, l)) (omega (arith, l)) ∙ ap (read_from m stage at) a
-    go (Field q size start len) e = settles (Field q size start len) e (λ x. let z : ◌≡◌ {A = ℕ} 0 1 = cc in omega arith)
-    go End e = settles End e (λ x. let z : ◌≡◌ {A = ℕ} 0 1 = cc in omega arith)
-    go Bad e = settles Bad e (λ x. let z : ◌≡◌ {A = ℕ} 0 1 = cc in omega arith)
+    go (Field q size start len) e = settles (Field q size start len) e (λ x. cc)
+    go End e = settles End e (λ x. cc)
+    go Bad e = settles Bad e (λ x. cc)
 
 enough : (n : ℕ) → Claim n
 enough zero = λ stage at m w parts h g. absurd (omega arith)
@@ -109,4 +111,4 @@ enough (suc n) = one_more n (enough n)
 
 pub streamed_read : (parts : List (List ℕ)) → streamed_all parts ≡ read (joined parts)
 unfolding streamed_all read
-streamed_read parts = enough (length (joined parts) + length parts + 1) 0 0 (length (joined parts)) [] parts (omega arith) (omega arith)
+streamed_read parts = enough (length (joined parts) + length parts + 1) NeedsUsername 0 (length (joined parts)) [] parts (omega arith) (omega arith)

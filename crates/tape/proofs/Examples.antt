@@ -5,6 +5,7 @@ use mathlib.Core.List.{List, [], ◌∷◌, ◌++◌}
 use Prim.Native.Nat.{ℕ}
 use lib.ListN.{replicate}
 use Rattle.stun_address.specs.declared.Ip.TheVariants.{V4, V6}
+use Rattle.tape.specs.declared.Stage.TheVariants.{NeedsUsername, Opened}
 use Rattle.tape.specs.declared.Piece.TheVariants.{Username, Password, Transport, Ids, Start, Datagram, Send, Poll, Lost, Close}
 use Rattle.tape.specs.declared.Front.TheVariants.{Field, More, Bad}
 use Rattle.tape.specs.Tape.{Tape, ends, bad, piece, send, timed, call, meaning, read_from, read}
@@ -116,16 +117,16 @@ unfolding read read_from meaning call timed
 no_such_tag = refl
 
 -- a body of 4,096 may still come, one of 4,097 is bad at its head
-pub longest : next_of 0 (0x01 ∷ 0x10 ∷ 0x00 ∷ []) false ≡ More
+pub longest : next_of NeedsUsername (0x01 ∷ 0x10 ∷ 0x00 ∷ []) false ≡ More
 unfolding next_of
 longest = refl
 
-pub too_long : next_of 0 (0x01 ∷ 0x10 ∷ 0x01 ∷ []) false ≡ Bad
+pub too_long : next_of NeedsUsername (0x01 ∷ 0x10 ∷ 0x01 ∷ []) false ≡ Bad
 unfolding next_of
 too_long = refl
 
 -- where a send's data lies
-pub sent_front : next_of 3 ((0x12 ∷ 0 ∷ 16 ∷ time 3 0xE8) ++ (1 ∷ 0x80 ∷ 0x55 ∷ 192 ∷ 0 ∷ 2 ∷ 1 ∷ 0xAA ∷ 0x14 ∷ [])) false
+pub sent_front : next_of Opened ((0x12 ∷ 0 ∷ 16 ∷ time 3 0xE8) ++ (1 ∷ 0x80 ∷ 0x55 ∷ 192 ∷ 0 ∷ 2 ∷ 1 ∷ 0xAA ∷ 0x14 ∷ [])) false
     ≡ Field (Send 1000 (record { ip = V4 0xC0000201; port = 32853 })) 19 18 1
 unfolding next_of meaning call timed send
 sent_front = refl

@@ -1,5 +1,4 @@
 -- The laws of the tape: what others cite is in Listing, Sizes and Cutting; Examples has tapes that are read by computation.
-pub mod Bodies
 pub mod Fields
 pub mod Listing
 pub mod Sizes

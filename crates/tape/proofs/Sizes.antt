@@ -10,17 +10,21 @@ use borrow.Author.Tests.{eqb-true, leb-true}
 use lib.ListN.{length, get_or, take}
 use lib.Seq.{length-take-le}
 use lib.Dec.{eqb, leb, ltb}
+use Rattle.std.specs.Prelude.{Some, None}
+use Rattle.tape.specs.declared.Stage.{Stage}
+use Rattle.tape.specs.declared.Stage.TheVariants.{NeedsUsername, NeedsPassword, NeedsTransport, Opened}
+use Rattle.tape.specs.declared.Meant.{Meant}
 use Rattle.tape.specs.declared.Piece.{Piece}
 use Rattle.tape.specs.declared.Front.{Front}
 use Rattle.tape.specs.declared.Front.TheVariants.{Field, More, End, Bad}
-use Rattle.tape.specs.Tape.{Meaning, wrong, means, only, starts, transport, send, timed, call, meaning}
+use Rattle.tape.specs.Tape.{Meaning, means, only, starts, transport, send, timed, call, meaning}
 use Rattle.tape.specs.Window.{cut, answer, next_of}
 use Rattle.tape.proofs.Fields.{compared, size, front_long, front_cut, front_whole}
 
 -- a piece takes no more than the body
 abbrev Fits : ℕ → Meaning → Type 0
-Fits n wrong = Unit
-Fits n (means p k) = k ≤ n
+Fits n None = Unit
+Fits n (Some m) = m.taken ≤ n
 
 either : (n : ℕ) (t : Bool) (a b : Meaning) → Fits n a → Fits n b → Fits n (cond t a b)
 either n true a b f g = f
@@ -29,14 +33,14 @@ either n false a b f g = g
 only_fits : (n k : ℕ) (p : Piece) → Fits n (only n k p)
 only_fits n k p = go (eqb n k) refl
   where
-    go : (t : Bool) → eqb n k ≡ t → Fits n (cond t (means p k) wrong)
+    go : (t : Bool) → eqb n k ≡ t → Fits n (cond t (means p k) None)
     go true e = omega (arith, eqb-true n k e)
     go false e = tt
 
 starts_fits : (n k : ℕ) (p : Piece) → Fits n (starts n k p)
 starts_fits n k p = go (leb k n) refl
   where
-    go : (t : Bool) → leb k n ≡ t → Fits n (cond t (means p k) wrong)
+    go : (t : Bool) → leb k n ≡ t → Fits n (cond t (means p k) None)
     go true e = leb-true k n e
     go false e = tt
 
@@ -66,12 +70,15 @@ module _ (body : List ℕ) where
       (either (length body) (eqb tag 0x14) _ _ (only_fits (length body) 0 _)
       (either (length body) (eqb tag 0x15) _ _ (only_fits (length body) 0 _) (either (length body) (ltb (length body) 8) _ _ tt (timed_fits tag _))))
 
-  meaning_fits : (stage tag : ℕ) → Fits (length body) (meaning stage tag body)
+  meaning_fits : (stage : Stage) (tag : ℕ) → Fits (length body) (meaning stage tag body)
   unfolding meaning
-  meaning_fits stage tag =
-      either (length body) (eqb stage 0) _ _ (either (length body) (eqb tag 1) _ _ (starts_fits (length body) 0 _) tt)
-      (either (length body) (eqb stage 1) _ _ (either (length body) (eqb tag 2) _ _ (starts_fits (length body) 0 _) tt)
-      (either (length body) (eqb stage 2) _ _ (either (length body) (eqb tag 3) _ _ (transport_fits body) tt) (call_fits tag)))
+  meaning_fits NeedsUsername tag = either (length body) (eqb tag 1) _ _ (starts_fits (length body) 0 _) tt
+  meaning_fits NeedsPassword tag = either (length body) (eqb tag 2) _ _ (starts_fits (length body) 0 _) tt
+  meaning_fits NeedsTransport tag = either (length body) (eqb tag 3) _ _ (transport_fits body) tt
+  meaning_fits Opened tag = call_fits tag
+
+pub meant_fits : (stage : Stage) (tag : ℕ) (body : List ℕ) (m : Meant) → meaning stage tag body ≡ Some m → m.taken ≤ length body
+meant_fits stage tag body m e = subst (Fits (length body)) e (meaning_fits body stage tag)
 
 -- a field of `size` bytes lies in the window, and what it carries ends with it
 pub record Inside (w : List ℕ) (size start len : ℕ) : Type 0 where
@@ -91,10 +98,10 @@ cut_fine w true h = tt
 cut_fine w false h = (refl, h)
 
 answer_fine : (w : List ℕ) (ended : Bool) (m : Meaning) (n : ℕ) → Fits n m → n ≤ 4096 → 3 + n ≤ length w → Fine w ended (answer m n)
-answer_fine w ended wrong n f h g = tt
-answer_fine w ended (means p k) n f h g = record { least = omega arith; most = omega arith; lies = g; closes = omega arith }
+answer_fine w ended None n f h g = tt
+answer_fine w ended (Some m) n f h g = record { least = omega arith; most = omega arith; lies = g; closes = omega arith }
 
-pub fine : (stage : ℕ) (w : List ℕ) (ended : Bool) → Fine w ended (next_of stage w ended)
+pub fine : (stage : Stage) (w : List ℕ) (ended : Bool) → Fine w ended (next_of stage w ended)
 unfolding next_of
 fine stage [] true = (refl, refl)
 fine stage [] false = (refl, omega arith)
@@ -116,8 +123,8 @@ fine stage (tag ∷ high ∷ low ∷ r) ended = go (compared 4096 (size high low
         subst (λ (k : ℕ). Fits k (meaning stage tag (take s r))) (length-take-le s r g) (meaning_fits (take s r) stage tag) in
         subst (λ (f : Front). Fine w ended f) (sym (front_whole stage tag high low r ended h g)) (answer_fine w ended (meaning stage tag (take s r)) s m h (omega arith))
 
-pub inside : (stage : ℕ) (w : List ℕ) (ended : Bool) (p : Piece) (size start len : ℕ) → next_of stage w ended ≡ Field p size start len → Inside w size start len
+pub inside : (stage : Stage) (w : List ℕ) (ended : Bool) (p : Piece) (size start len : ℕ) → next_of stage w ended ≡ Field p size start len → Inside w size start len
 inside stage w ended p size start len e = subst (λ (f : Front). Fine w ended f) e (fine stage w ended)
 
-pub waiting : (stage : ℕ) (w : List ℕ) (ended : Bool) → next_of stage w ended ≡ More → (ended ≡ false) × (length w < 4099)
+pub waiting : (stage : Stage) (w : List ℕ) (ended : Bool) → next_of stage w ended ≡ More → (ended ≡ false) × (length w < 4099)
 waiting stage w ended e = subst (λ (f : Front). Fine w ended f) e (fine stage w ended)

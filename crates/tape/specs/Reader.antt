@@ -1,6 +1,8 @@
 -- Readers of a tape that go by the answers of `next` alone: one that has all of it (`taken`), and one that gets it in parts
 -- (`streamed`).
 use Rattle.std.specs.Prelude.{true, false, List, [], ◌∷◌, ◌++◌, ℕ, zero, suc, ◌+◌, length, take, drop}
+use Rattle.tape.specs.declared.Stage.{Stage}
+use Rattle.tape.specs.declared.Stage.TheVariants.{NeedsUsername}
 use Rattle.tape.specs.declared.Front.{Front}
 use Rattle.tape.specs.declared.Front.TheVariants.{Field, More, End, Bad}
 use Rattle.tape.specs.Tape.{later, Tape, ends, bad, piece}
@@ -21,7 +23,7 @@ behind End = 0
 behind Bad = 0
 
 -- up to n fields from the front of a window with all that is left of the tape
-unfoldable pub taken : ℕ → ℕ → ℕ → List ℕ → Tape
+unfoldable pub taken : ℕ → Stage → ℕ → List ℕ → Tape
 taken zero stage at [] = ends
 taken zero stage at (tag ∷ r) = bad at
 taken (suc n) stage at w =
@@ -40,7 +42,7 @@ waits End a b = b
 waits Bad a b = b
 
 -- up to n answers: the window, and the parts that have not come yet
-unfoldable pub streamed : ℕ → ℕ → ℕ → List ℕ → List (List ℕ) → Tape
+unfoldable pub streamed : ℕ → Stage → ℕ → List ℕ → List (List ℕ) → Tape
 streamed zero stage at w parts = bad at
 streamed (suc n) stage at w [] =
     let size : ℕ = behind (next_of stage w true) in
@@ -52,4 +54,4 @@ streamed (suc n) stage at w (p ∷ ps) =
 
 -- each part and each field takes an answer, and the end one more
 unfoldable pub streamed_all : List (List ℕ) → Tape
-streamed_all parts = streamed (length (joined parts) + length parts + 1) 0 0 [] parts
+streamed_all parts = streamed (length (joined parts) + length parts + 1) NeedsUsername 0 [] parts

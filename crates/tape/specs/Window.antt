@@ -1,8 +1,9 @@
 -- What stands at the front of a window on the tape: the answer of `next`.
-use Rattle.std.specs.Prelude.{Bool, cond, List, ℕ, ◌+◌, ◌-◌, length, get_or, take, drop, eqb, ltb}
+use Rattle.std.specs.Prelude.{Bool, cond, List, Some, None, ℕ, ◌+◌, ◌-◌, length, get_or, take, drop, eqb, ltb}
+use Rattle.tape.specs.declared.Stage.{Stage}
 use Rattle.tape.specs.declared.Front.{Front}
 use Rattle.tape.specs.declared.Front.TheVariants.{Field, More, End, Bad}
-use Rattle.tape.specs.Tape.{Meaning, wrong, means, meaning, number_at}
+use Rattle.tape.specs.Tape.{Meaning, meaning, number_at}
 
 -- a field's length and body, at the front
 abbrev pub size_in : List ℕ → ℕ
@@ -17,11 +18,11 @@ cut ended = cond ended Bad More
 
 -- a field with a body of n bytes: its whole size, and where what it carries lies
 abbrev pub answer : Meaning → ℕ → Front
-answer wrong n = Bad
-answer (means p k) n = Field p (3 + n) (3 + k) (n - k)
+answer None n = Bad
+answer (Some m) n = Field m.piece (3 + n) (3 + m.taken) (n - m.taken)
 
 -- a body over 4,096 is bad as soon as its length is there, any other shape as soon as the field is whole
-unfoldable pub next_of : ℕ → List ℕ → Bool → Front
+unfoldable pub next_of : Stage → List ℕ → Bool → Front
 next_of stage w ended =
     cond (eqb (length w) 0) (cond ended End More)
     (cond (ltb (length w) 3) (cut ended)

@@ -2,12 +2,66 @@
 // body of at most 4,096 bytes, so a window of 4,099 holds every field.
 #![tactic(auto)]
 
-ghost use Rattle.std.specs.Prelude.{◌≡◌, [], ◌∷◌, ◌+◌, ◌≤◌, length, take, drop};
-ghost use Rattle.stun_address.specs.Source.{from_be};
-ghost use Rattle.tape.specs.Tape.{only, starts, transport, send, timed, call, meaning};
-ghost use Rattle.tape.specs.Window.{cut, answer, next_of};
+ghost use Rattle.std.specs.Prelude.{◌≡◌, ◌+◌, ◌≤◌, ◌<◌, MatchOption, length, take, drop};
+ghost use Rattle.tape.specs.Tape.{later as «later_of», only, starts, transport, send, call, meaning};
+ghost use Rattle.tape.specs.Window.{cut, next_of};
 
 use stun_address::{Address, Ip};
+
+// The tags of fields.
+const USERNAME: u8 = 0x01;
+
+const PASSWORD: u8 = 0x02;
+
+const TRANSPORT: u8 = 0x03;
+
+const START: u8 = 0x10;
+
+const DATAGRAM: u8 = 0x11;
+
+const SEND: u8 = 0x12;
+
+const POLL: u8 = 0x13;
+
+const LOST: u8 = 0x14;
+
+const CLOSE: u8 = 0x15;
+
+const IDS: u8 = 0x20;
+
+// The most bytes of a body.
+const LONGEST: usize = 4096;
+
+// The two transports, and the families of addresses.
+const UDP: u8 = 0;
+
+const RELIABLE: u8 = 1;
+
+const IPV4: u8 = 1;
+
+const IPV6: u8 = 2;
+
+// The next field of the opening, or a call where all three are behind.
+#[derive(Clone, Copy, PartialEq, Eq)]
+pub enum Stage {
+    NeedsUsername,
+    NeedsPassword,
+    NeedsTransport,
+    Opened,
+}
+
+impl Stage {
+    // The stage behind the next field.
+    pub fn later(self) -> Stage
+        ensures { result ≡ «later_of» self }
+    {
+        match self {
+            Stage::NeedsUsername => Stage::NeedsPassword,
+            Stage::NeedsPassword => Stage::NeedsTransport,
+            Stage::NeedsTransport | Stage::Opened => Stage::Opened,
+        }
+    }
+}
 
 // A field's meaning. Times are milliseconds, a transport is reliable or not.
 #[derive(Clone, Copy)]
@@ -25,7 +79,8 @@ pub enum Piece {
 }
 
 // A whole field of `size` bytes, and what it carries: `len` bytes of the window from `start` on. More: the field is not whole
-// yet. End: the tape ends here.
+// yet. End: the tape ends here. An enum and no Result, which would be no plainer: a reader takes all four apart, and hands none
+// on by `?`.
 #[derive(Clone, Copy)]
 pub enum Front {
     Field {
@@ -39,200 +94,133 @@ pub enum Front {
     Bad,
 }
 
-// What stands at the front of the window, with `stage` fields of the opening behind it: username, password, transport, or all
-// three. Where `ended`, no more input comes.
-#[tactic(auto, using(crate::proofs::Bodies::next_long))]
-pub fn next(stage: u8, window: &[u8], ended: bool) -> Front
+// What a body means: a piece that takes its first bytes. The bytes after those are what the piece carries.
+#[derive(Clone, Copy)]
+struct Meant {
+    piece: Piece,
+    taken: usize,
+}
+
+// What stands at the front of the window, at a stage of the tape. Where `ended`, no more input comes.
+#[tactic(auto, unfolding(crate::specs::Window::next_of))]
+pub fn next(stage: Stage, window: &[u8], ended: bool) -> Front
     ensures { result ≡ next_of stage window.now ended }
 {
-    let have = window.len();
-    if have == 0 {
-        if ended {
-            return Front::End;
-        }
-        return Front::More;
+    if window.is_empty() {
+        return if ended { Front::End } else { Front::More };
     }
-    if have < 3 {
+    let Some((head, rest)) = window.split_first_chunk::<3>() else {
         return unfinished(ended);
-    }
-    let size = two(window[1], window[2]) as usize;
-    if 4096 < size {
+    };
+    let [tag, high, low] = *head;
+    let size = usize::from(u16::from_be_bytes([high, low]));
+    if LONGEST < size {
         return Front::Bad;
     }
-    if have < 3 + size {
+    if rest.len() < size {
         return unfinished(ended);
     }
-    whole(stage, window[0], &window[3..3 + size])
+    match whole(stage, tag, &rest[..size]) {
+        Some(Meant { piece, taken }) => Front::Field {
+            piece,
+            size: 3 + size,
+            start: 3 + taken,
+            len: size - taken,
+        },
+        None => Front::Bad,
+    }
 }
 
 fn unfinished(ended: bool) -> Front
     ensures { result ≡ cut ended }
 {
-    if ended {
-        return Front::Bad;
-    }
-    Front::More
+    if ended { Front::Bad } else { Front::More }
 }
 
-fn whole(stage: u8, tag: u8, body: &[u8]) -> Front
-    requires { length body.now ≤ 4096 }
-    ensures { result ≡ answer (meaning stage tag body.now) (length body.now) }
+#[tactic(auto, unfolding(crate::specs::Tape::meaning))]
+fn whole(stage: Stage, tag: u8, body: &[u8]) -> Option<Meant>
+    ensures { result ≡ meaning stage tag body.now }
 {
-    if stage == 0 {
-        if tag == 0x01 {
-            return started(Piece::Username, 0, body.len());
-        }
-        return Front::Bad;
+    let n = body.len();
+    match (stage, tag) {
+        (Stage::NeedsUsername, USERNAME) => started(Piece::Username, 0, n),
+        (Stage::NeedsPassword, PASSWORD) => started(Piece::Password, 0, n),
+        (Stage::NeedsTransport, TRANSPORT) => transported(body),
+        (Stage::Opened, _) => called(tag, body),
+        _ => None,
     }
-    if stage == 1 {
-        if tag == 0x02 {
-            return started(Piece::Password, 0, body.len());
-        }
-        return Front::Bad;
-    }
-    if stage == 2 {
-        if tag == 0x03 {
-            return transported(body);
-        }
-        return Front::Bad;
-    }
-    called(tag, body)
 }
 
 // A body of `n` bytes that is a piece of `k` bytes and nothing more.
-fn alone(piece: Piece, k: usize, n: usize) -> Front
-    requires { n ≤ 4096 }
-    ensures { result ≡ answer (only n k piece) n }
+fn alone(piece: Piece, k: usize, n: usize) -> Option<Meant>
+    ensures { result ≡ only n k piece }
 {
-    if n == k {
-        return Front::Field {
-            piece: piece,
-            size: 3 + n,
-            start: 3 + k,
-            len: n - k,
-        };
-    }
-    Front::Bad
+    (n == k).then_some(Meant { piece, taken: k })
 }
 
 // A body of `n` bytes that starts with a piece of `k` bytes.
-fn started(piece: Piece, k: usize, n: usize) -> Front
-    requires { n ≤ 4096 }
-    ensures { result ≡ answer (starts n k piece) n }
+fn started(piece: Piece, k: usize, n: usize) -> Option<Meant>
+    ensures { result ≡ starts n k piece }
 {
-    if k <= n {
-        return Front::Field {
-            piece: piece,
-            size: 3 + n,
-            start: 3 + k,
-            len: n - k,
-        };
-    }
-    Front::Bad
+    (k <= n).then_some(Meant { piece, taken: k })
 }
 
-fn transported(body: &[u8]) -> Front
-    requires { length body.now ≤ 4096 }
-    ensures { result ≡ answer (transport body.now) (length body.now) }
+fn transported(body: &[u8]) -> Option<Meant>
+    ensures { result ≡ transport body.now }
 {
-    let n = body.len();
-    if n != 1 {
-        return Front::Bad;
+    match body {
+        [UDP] => alone(Piece::Transport(false), 1, 1),
+        [RELIABLE] => alone(Piece::Transport(true), 1, 1),
+        _ => None,
     }
-    let kind = body[0];
-    if kind == 0 {
-        return alone(Piece::Transport(false), 1, n);
-    }
-    if kind == 1 {
-        return alone(Piece::Transport(true), 1, n);
-    }
-    Front::Bad
 }
 
-fn called(tag: u8, body: &[u8]) -> Front
-    requires { length body.now ≤ 4096 }
-    ensures { result ≡ answer (call tag body.now) (length body.now) }
+#[tactic(auto, unfolding(crate::specs::Tape::call, crate::specs::Tape::timed))]
+fn called(tag: u8, body: &[u8]) -> Option<Meant>
+    ensures { result ≡ call tag body.now }
 {
     let n = body.len();
-    if tag == 0x20 {
-        return started(Piece::Ids, 0, n);
+    match tag {
+        IDS => return started(Piece::Ids, 0, n),
+        LOST => return alone(Piece::Lost, 0, n),
+        CLOSE => return alone(Piece::Close, 0, n),
+        _ => {}
     }
-    if tag == 0x14 {
-        return alone(Piece::Lost, 0, n);
+    let time = u64::from_be_bytes(bytes_at(body, 0)?);
+    match tag {
+        START => alone(Piece::Start(time), 8, n),
+        DATAGRAM => started(Piece::Datagram(time), 8, n),
+        SEND => sent(time, body),
+        POLL => alone(Piece::Poll(time), 8, n),
+        _ => None,
     }
-    if tag == 0x15 {
-        return alone(Piece::Close, 0, n);
-    }
-    if n < 8 {
-        return Front::Bad;
-    }
-    let time = eight_at(body, 0);
-    at_time(tag, time, body)
 }
 
-fn at_time(tag: u8, time: u64, body: &[u8]) -> Front
-    requires { length body.now ≤ 4096 }
-    ensures { result ≡ answer (timed tag time body.now) (length body.now) }
+#[tactic(auto, unfolding(crate::specs::Tape::send))]
+fn sent(time: u64, body: &[u8]) -> Option<Meant>
+    ensures { result ≡ send time body.now }
 {
     let n = body.len();
-    if tag == 0x10 {
-        return alone(Piece::Start(time), 8, n);
-    }
-    if tag == 0x11 {
-        return started(Piece::Datagram(time), 8, n);
-    }
-    if tag == 0x12 {
-        return sent(time, body);
-    }
-    if tag == 0x13 {
-        return alone(Piece::Poll(time), 8, n);
-    }
-    Front::Bad
-}
-
-#[tactic(auto, using(crate::proofs::Bodies::send_v6))]
-fn sent(time: u64, body: &[u8]) -> Front
-    requires { length body.now ≤ 4096 }
-    ensures { result ≡ answer (send time body.now) (length body.now) }
-{
-    let n = body.len();
-    if n < 15 {
-        return Front::Bad;
-    }
-    let family = body[8];
-    let port = two(body[9], body[10]);
-    if family == 1 {
-        let ip = Ip::V4(four(body[11], body[12], body[13], body[14]));
-        return started(Piece::Send(time, Address { ip, port }), 15, n);
-    }
-    if family == 2 {
-        if n < 27 {
-            return Front::Bad;
+    let [family, high, low] = bytes_at::<3>(body, 8)?;
+    let port = u16::from_be_bytes([high, low]);
+    match family {
+        IPV4 => {
+            let ip = Ip::V4(u32::from_be_bytes(bytes_at(body, 11)?));
+            started(Piece::Send(time, Address { ip, port }), 15, n)
         }
-        let ip = Ip::V6(eight_at(body, 11), eight_at(body, 19));
-        return started(Piece::Send(time, Address { ip, port }), 27, n);
+        IPV6 => {
+            let high = u64::from_be_bytes(bytes_at(body, 11)?);
+            let low = u64::from_be_bytes(bytes_at(body, 19)?);
+            let ip = Ip::V6(high, low);
+            started(Piece::Send(time, Address { ip, port }), 27, n)
+        }
+        _ => None,
     }
-    Front::Bad
 }
 
-// The numbers of two, four and eight bytes, high byte first.
-fn two(a: u8, b: u8) -> u16
-    ensures { result ≡ from_be (a ∷ b ∷ []) }
+// The `N` bytes at a place of a body that has them.
+fn bytes_at<const N: usize>(body: &[u8], at: usize) -> Option<[u8; N]>
+    ensures { MatchOption result (length body.now < at + N) (λ bytes. (at + N ≤ length body.now) × (bytes ≡ take N (drop at body.now))) }
 {
-    (a as u16) * 256 + b as u16
-}
-
-fn four(a: u8, b: u8, c: u8, d: u8) -> u32
-    ensures { result ≡ from_be (a ∷ b ∷ c ∷ d ∷ []) }
-{
-    (a as u32) * 16777216 + (b as u32) * 65536 + (c as u32) * 256 + d as u32
-}
-
-fn eight_at(body: &[u8], p: usize) -> u64
-    requires { p + 8 ≤ length body.now }
-    ensures { result ≡ from_be (take 8 (drop p body.now)) }
-{
-    let high = four(body[p], body[p + 1], body[p + 2], body[p + 3]) as u64;
-    let low = four(body[p + 4], body[p + 5], body[p + 6], body[p + 7]) as u64;
-    high * 4294967296 + low
+    Some(*body.get(at..)?.first_chunk::<N>()?)
 }

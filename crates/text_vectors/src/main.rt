@@ -3,9 +3,16 @@
 // ends of each range of Table 3-7, and lengths around the room's.
 #![tactic(auto)]
 
-ghost use Rattle.std.specs.Prelude.{◌≤◌, ◌<◌};
+ghost use Rattle.std.specs.Prelude.{◌≤◌, ◌<◌, length};
 
 use std::io;
+use stun_text::{Text, TooLong};
+
+// What is shown of a text that does not fit.
+const NOTHING: Text = Text {
+    bytes: [0; 763],
+    len: 0,
+};
 
 fn main(rt: HostRuntime) -> io::Result<()> {
     pairs(&rt)?;
@@ -19,24 +26,24 @@ fn main(rt: HostRuntime) -> io::Result<()> {
 
 // The first and the last sequence of each row.
 fn rows(rt: &impl Print) -> io::Result<()> {
-    around(rt, [0x00, 0, 0, 0], 1)?;
-    around(rt, [0x7F, 0, 0, 0], 1)?;
-    around(rt, [0xC2, 0x80, 0, 0], 2)?;
-    around(rt, [0xDF, 0xBF, 0, 0], 2)?;
-    around(rt, [0xE0, 0xA0, 0x80, 0], 3)?;
-    around(rt, [0xE0, 0xBF, 0xBF, 0], 3)?;
-    around(rt, [0xE1, 0x80, 0x80, 0], 3)?;
-    around(rt, [0xEC, 0xBF, 0xBF, 0], 3)?;
-    around(rt, [0xED, 0x80, 0x80, 0], 3)?;
-    around(rt, [0xED, 0x9F, 0xBF, 0], 3)?;
-    around(rt, [0xEE, 0x80, 0x80, 0], 3)?;
-    around(rt, [0xEF, 0xBF, 0xBF, 0], 3)?;
-    around(rt, [0xF0, 0x90, 0x80, 0x80], 4)?;
-    around(rt, [0xF0, 0xBF, 0xBF, 0xBF], 4)?;
-    around(rt, [0xF1, 0x80, 0x80, 0x80], 4)?;
-    around(rt, [0xF3, 0xBF, 0xBF, 0xBF], 4)?;
-    around(rt, [0xF4, 0x80, 0x80, 0x80], 4)?;
-    around(rt, [0xF4, 0x8F, 0xBF, 0xBF], 4)
+    around(rt, &[0x00])?;
+    around(rt, &[0x7F])?;
+    around(rt, &[0xC2, 0x80])?;
+    around(rt, &[0xDF, 0xBF])?;
+    around(rt, &[0xE0, 0xA0, 0x80])?;
+    around(rt, &[0xE0, 0xBF, 0xBF])?;
+    around(rt, &[0xE1, 0x80, 0x80])?;
+    around(rt, &[0xEC, 0xBF, 0xBF])?;
+    around(rt, &[0xED, 0x80, 0x80])?;
+    around(rt, &[0xED, 0x9F, 0xBF])?;
+    around(rt, &[0xEE, 0x80, 0x80])?;
+    around(rt, &[0xEF, 0xBF, 0xBF])?;
+    around(rt, &[0xF0, 0x90, 0x80, 0x80])?;
+    around(rt, &[0xF0, 0xBF, 0xBF, 0xBF])?;
+    around(rt, &[0xF1, 0x80, 0x80, 0x80])?;
+    around(rt, &[0xF3, 0xBF, 0xBF, 0xBF])?;
+    around(rt, &[0xF4, 0x80, 0x80, 0x80])?;
+    around(rt, &[0xF4, 0x8F, 0xBF, 0xBF])
 }
 
 // n bytes, of which the last is another: what fits the room of 763, and what does not.
@@ -62,52 +69,35 @@ fn lengths(rt: &impl Print) -> io::Result<()> {
 // A line for each first byte: the checksum, over the second bytes in order, of whether the text is
 // well-formed, how long its replacement is, and the replacement.
 fn pairs(rt: &impl Print) -> io::Result<()> {
-    let mut a: u8 = 0;
-    loop {
+    for a in 0..=255u8 {
         byte(rt, a)?;
         space(rt)?;
-        print!(rt; "{:08x}", wide(seconds(a)))?;
+        print!(rt; "{:08x}", seconds(a))?;
         end(rt)?;
-        if a == 255 {
-            break;
-        }
-        a += 1;
     }
     Ok(())
 }
 
 fn seconds(a: u8) -> u32 {
     let mut sum = 1;
-    let mut b: u8 = 0;
-    loop {
+    for b in 0..=255u8 {
         sum = checked(sum, &[a, b]);
-        if b == 255 {
-            break;
-        }
-        b += 1;
     }
     sum
 }
 
 fn checked(sum: u32, s: &[u8]) -> u32 {
-    let r = stun_text::lossy(s);
-    let t = r.text;
-    let bytes = t.bytes;
-    let len = t.len;
-    let first = added(sum, flag(stun_text::well_formed(s)));
-    added_all(added(first, (len % 256) as u8), &bytes, len)
+    let first = added(sum, u8::from(stun_text::well_formed(s)));
+    match stun_text::lossy(s) {
+        Ok(text) => added_all(added(first, (text.len % 256) as u8), text.as_slice()),
+        Err(TooLong) => added(first, 0),
+    }
 }
 
-// The first n bytes of the room.
-fn added_all(sum: u32, bytes: &[u8; 763], n: usize) -> u32 {
+fn added_all(sum: u32, bytes: &[u8]) -> u32 {
     let mut all = sum;
-    let mut i = 0;
-    while i < 763 {
-        if n <= i {
-            return all;
-        }
-        all = added(all, bytes[i]);
-        i += 1;
+    for b in bytes {
+        all = added(all, *b);
     }
     all
 }
@@ -120,31 +110,29 @@ fn added(sum: u32, b: u8) -> u32 {
 }
 
 // The text's beginnings, and the text with one byte one less and one more, at each place.
-fn around(rt: &impl Print, t: [u8; 4], n: usize) -> io::Result<()>
-    requires { n ≤ 4 }
+fn around(rt: &impl Print, t: &[u8]) -> io::Result<()>
+    requires { length t.now ≤ 4 }
 {
-    let mut p = 0;
-    while p < n {
-        show(rt, &t[0..p + 1])?;
-        p += 1;
+    for n in 1..t.len() + 1 {
+        show(rt, &t[0..n])?;
     }
-    p = 0;
-    while p < n {
-        changed(rt, t, n, p, 255)?;
-        changed(rt, t, n, p, 1)?;
-        p += 1;
+    for p in 0..t.len() {
+        changed(rt, t, p, 255)?;
+        changed(rt, t, p, 1)?;
     }
     Ok(())
 }
 
-fn changed(rt: &impl Print, t: [u8; 4], n: usize, p: usize, by: u32) -> io::Result<()>
-    requires n_bound { n ≤ 4 }
-    requires p_lt_n { p < n }
+fn changed(rt: &impl Print, t: &[u8], p: usize, by: u32) -> io::Result<()>
+    requires t_bound { length t.now ≤ 4 }
+    requires p_lt_t { p < length t.now }
     requires by_bound { by < 256 }
 {
-    let mut u = t;
+    let mut room = [0; 4];
+    let u = &mut room[0..t.len()];
+    u.copy_from_slice(t);
     u[p] = moved(t[p], by);
-    show(rt, &u[0..n])
+    show(rt, u)
 }
 
 fn moved(b: u8, by: u32) -> u8
@@ -155,31 +143,14 @@ fn moved(b: u8, by: u32) -> u8
 
 // The text, whether it is well-formed, and what it is replaced by.
 fn show(rt: &impl Print, s: &[u8]) -> io::Result<()> {
-    let mut i = 0;
-    while i < s.len() {
-        byte(rt, s[i])?;
-        i += 1;
+    bytes(rt, s)?;
+    space(rt)?;
+    byte(rt, u8::from(stun_text::well_formed(s)))?;
+    space(rt)?;
+    if let Ok(text) = stun_text::lossy(s) {
+        bytes(rt, text.as_slice())?;
     }
-    space(rt)?;
-    byte(rt, flag(stun_text::well_formed(s)))?;
-    space(rt)?;
-    let r = stun_text::lossy(s);
-    let t = r.text;
-    let bytes = t.bytes;
-    shown(rt, &bytes, t.len)?;
     end(rt)
-}
-
-fn shown(rt: &impl Print, bytes: &[u8; 763], n: usize) -> io::Result<()> {
-    let mut i = 0;
-    while i < 763 {
-        if n <= i {
-            return Ok(());
-        }
-        byte(rt, bytes[i])?;
-        i += 1;
-    }
-    Ok(())
 }
 
 // Whether the text is well-formed, whether its replacement fits, how long that is, and the checksum
@@ -191,25 +162,25 @@ fn long(rt: &impl Print, b: u8, n: usize, last: u8) -> io::Result<()>
     let mut a = [b; 800];
     a[n - 1] = last;
     let s = &a[0..n];
-    byte(rt, flag(stun_text::well_formed(s)))?;
+    byte(rt, u8::from(stun_text::well_formed(s)))?;
     space(rt)?;
-    let r = stun_text::lossy(s);
-    byte(rt, flag(r.fits))?;
+    let (fits, text) = match stun_text::lossy(s) {
+        Ok(text) => (true, text),
+        Err(TooLong) => (false, NOTHING),
+    };
+    byte(rt, u8::from(fits))?;
     space(rt)?;
-    let t = r.text;
-    let bytes = t.bytes;
-    print!(rt; "{}", t.len)?;
+    print!(rt; "{}", text.len)?;
     space(rt)?;
-    print!(rt; "{:08x}", wide(added_all(1, &bytes, 763)))?;
+    print!(rt; "{:08x}", added_all(1, &text.bytes))?;
     end(rt)
 }
 
-fn flag(b: bool) -> u8 {
-    if b { 1 } else { 0 }
-}
-
-fn wide(x: u32) -> u64 {
-    x as u64
+fn bytes(rt: &impl Print, s: &[u8]) -> io::Result<()> {
+    for b in s {
+        byte(rt, *b)?;
+    }
+    Ok(())
 }
 
 fn byte(rt: &impl Print, b: u8) -> io::Result<()> {

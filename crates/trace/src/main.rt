@@ -2,6 +2,8 @@
 // its events and the client's state.
 #![tactic(auto)]
 
+use player::Detail;
+
 fn main(rt: HostRuntime) {
-    player::play(&rt, true);
+    player::play(&rt, Detail::Clients);
 }

@@ -1,9 +1,9 @@
 -- The scope's list "Both sides of each line", the cases of the client (7, 8, 11 to 13) under their numbers, and its listing of a tape.
 -- Whole sequences of calls are computed by the definition that the code is proved against.
+use Rattle.std.specs.Prelude.{Option, None, Some}
 use mathlib.Core.Path.{◌≡◌, refl}
 use mathlib.Core.Bool.{Bool, true, false}
 use mathlib.Core.List.{List, [], ◌∷◌, ◌++◌, map}
-use mathlib.Core.Option.{Option, none, some}
 use Prim.Native.Nat.{ℕ, ◌+◌}
 use lib.ListN.{length, take, drop, replicate}
 use Rattle.stun_frame.specs.Source.{class, is_stun, is_channel_data, decode_channel_data}
@@ -50,7 +50,7 @@ polled now = Poll now [] 65536
 
 -- the scope's tape
 tape : listing false (started 1000 ∷ polled 1499 ∷ polled 1500 ∷ TransportFailed ∷ [])
-    ≡ line 0 0 1 60 (some 1500) ∷ line 0 0 0 0 (some 1500) ∷ line 0 0 1 60 (some 2500) ∷ line 0 1 0 0 none ∷ []
+    ≡ line 0 0 1 60 (Some 1500) ∷ line 0 0 0 0 (Some 1500) ∷ line 0 0 1 60 (Some 2500) ∷ line 0 1 0 0 None ∷ []
 unfolding well_formed parts sequence subpart number insert_txn request start poll poll_due poll_refresh poll_perms poll_chans on_failure transport_failed encoded with_integrity with_fingerprint push_attr
 tape = refl
 
@@ -64,20 +64,20 @@ granted n more = Handle 1000 (head 0x03 (12 + n) ++ (0x00 ∷ 0x16 ∷ 0x00 ∷ 
 abbrev lifetime : ℕ → List ℕ
 lifetime s = 0x00 ∷ 0x0D ∷ 0x00 ∷ 0x04 ∷ 0 ∷ 0 ∷ 0 ∷ s ∷ []
 
-granted_0 : listing false (started 0 ∷ granted 8 (lifetime 0) ∷ []) ≡ line 0 0 1 60 (some 500) ∷ line 0 1 0 0 (some 61000) ∷ []
+granted_0 : listing false (started 0 ∷ granted 8 (lifetime 0) ∷ []) ≡ line 0 0 1 60 (Some 500) ∷ line 0 1 0 0 (Some 61000) ∷ []
 unfolding well_formed parts sequence subpart number insert_txn request start encoded with_integrity with_fingerprint push_attr handle on_success class is_stun is_channel_data decode_channel_data decode_xor_addr attributes_from readable get_of lifetime_of xor_addr_of
 granted_0 = refl
 
-granted_120 : listing false (started 0 ∷ granted 8 (lifetime 120) ∷ []) ≡ line 0 0 1 60 (some 500) ∷ line 0 1 0 0 (some 61000) ∷ []
+granted_120 : listing false (started 0 ∷ granted 8 (lifetime 120) ∷ []) ≡ line 0 0 1 60 (Some 500) ∷ line 0 1 0 0 (Some 61000) ∷ []
 unfolding well_formed parts sequence subpart number insert_txn request start encoded with_integrity with_fingerprint push_attr handle on_success class is_stun is_channel_data decode_channel_data decode_xor_addr attributes_from readable get_of lifetime_of xor_addr_of
 granted_120 = refl
 
-granted_121 : listing false (started 0 ∷ granted 8 (lifetime 121) ∷ []) ≡ line 0 0 1 60 (some 500) ∷ line 0 1 0 0 (some 62000) ∷ []
+granted_121 : listing false (started 0 ∷ granted 8 (lifetime 121) ∷ []) ≡ line 0 0 1 60 (Some 500) ∷ line 0 1 0 0 (Some 62000) ∷ []
 unfolding well_formed parts sequence subpart number insert_txn request start encoded with_integrity with_fingerprint push_attr handle on_success class is_stun is_channel_data decode_channel_data decode_xor_addr attributes_from readable get_of lifetime_of xor_addr_of
 granted_121 = refl
 
 -- none: 600
-granted_none : listing false (started 0 ∷ granted 0 [] ∷ []) ≡ line 0 0 1 60 (some 500) ∷ line 0 1 0 0 (some 541000) ∷ []
+granted_none : listing false (started 0 ∷ granted 0 [] ∷ []) ≡ line 0 0 1 60 (Some 500) ∷ line 0 1 0 0 (Some 541000) ∷ []
 unfolding well_formed parts sequence subpart number insert_txn request start encoded with_integrity with_fingerprint push_attr handle on_success class is_stun is_channel_data decode_channel_data decode_xor_addr attributes_from readable get_of lifetime_of xor_addr_of
 granted_none = refl
 
@@ -86,21 +86,21 @@ abbrev renewed : List ℕ → ℕ → List Call
 renewed more n = started 0 ∷ granted 0 [] ∷ polled 540999 ∷ Poll 541000 id 65536 ∷ Handle 542000 (head 0x04 n ++ more) [] 0 ∷ []
 
 abbrev before : Option ℕ → List Line
-before deadline = line 0 0 0 0 (some 541000) ∷ line 0 0 1 36 (some 541500) ∷ line 0 0 0 0 deadline ∷ []
+before deadline = line 0 0 0 0 (Some 541000) ∷ line 0 0 1 36 (Some 541500) ∷ line 0 0 0 0 deadline ∷ []
 
-renewed_0 : drop 2 (listing false (renewed (lifetime 0) 8)) ≡ before (some 602000)
+renewed_0 : drop 2 (listing false (renewed (lifetime 0) 8)) ≡ before (Some 602000)
 unfolding well_formed parts sequence subpart number insert_txn request start poll poll_due poll_refresh poll_perms poll_chans encoded with_integrity with_fingerprint push_attr handle on_success class is_stun is_channel_data decode_channel_data decode_xor_addr attributes_from readable get_of lifetime_of xor_addr_of
 renewed_0 = refl
 
-renewed_120 : drop 2 (listing false (renewed (lifetime 120) 8)) ≡ before (some 602000)
+renewed_120 : drop 2 (listing false (renewed (lifetime 120) 8)) ≡ before (Some 602000)
 unfolding well_formed parts sequence subpart number insert_txn request start poll poll_due poll_refresh poll_perms poll_chans encoded with_integrity with_fingerprint push_attr handle on_success class is_stun is_channel_data decode_channel_data decode_xor_addr attributes_from readable get_of lifetime_of xor_addr_of
 renewed_120 = refl
 
-renewed_121 : drop 2 (listing false (renewed (lifetime 121) 8)) ≡ before (some 603000)
+renewed_121 : drop 2 (listing false (renewed (lifetime 121) 8)) ≡ before (Some 603000)
 unfolding well_formed parts sequence subpart number insert_txn request start poll poll_due poll_refresh poll_perms poll_chans encoded with_integrity with_fingerprint push_attr handle on_success class is_stun is_channel_data decode_channel_data decode_xor_addr attributes_from readable get_of lifetime_of xor_addr_of
 renewed_121 = refl
 
-renewed_none : drop 2 (listing false (renewed [] 0)) ≡ before (some 1082000)
+renewed_none : drop 2 (listing false (renewed [] 0)) ≡ before (Some 1082000)
 unfolding well_formed parts sequence subpart number insert_txn request start poll poll_due poll_refresh poll_perms poll_chans encoded with_integrity with_fingerprint push_attr handle on_success class is_stun is_channel_data decode_channel_data decode_xor_addr attributes_from readable get_of lifetime_of xor_addr_of
 renewed_none = refl
 
@@ -111,15 +111,15 @@ unanswered =
     polled 15499 ∷ polled 15500 ∷ polled 15501 ∷ []
 
 repeats : listing false unanswered
-    ≡ line 0 0 1 60 (some 500) ∷ line 0 0 0 0 (some 500) ∷ line 0 0 1 60 (some 1500) ∷ line 0 0 0 0 (some 1500) ∷ line 0 0 1 60 (some 3500)
-    ∷ line 0 0 0 0 (some 3500) ∷ line 0 0 1 60 (some 7500) ∷ line 0 0 0 0 (some 7500) ∷ line 0 0 1 60 (some 11500) ∷ line 0 0 0 0 (some 11500)
-    ∷ line 0 0 1 60 (some 15500) ∷ line 0 0 0 0 (some 15500) ∷ line 0 1 0 0 none ∷ line 0 0 0 0 none ∷ []
+    ≡ line 0 0 1 60 (Some 500) ∷ line 0 0 0 0 (Some 500) ∷ line 0 0 1 60 (Some 1500) ∷ line 0 0 0 0 (Some 1500) ∷ line 0 0 1 60 (Some 3500)
+    ∷ line 0 0 0 0 (Some 3500) ∷ line 0 0 1 60 (Some 7500) ∷ line 0 0 0 0 (Some 7500) ∷ line 0 0 1 60 (Some 11500) ∷ line 0 0 0 0 (Some 11500)
+    ∷ line 0 0 1 60 (Some 15500) ∷ line 0 0 0 0 (Some 15500) ∷ line 0 1 0 0 None ∷ line 0 0 0 0 None ∷ []
 unfolding well_formed parts sequence subpart number insert_txn request start poll poll_due poll_refresh poll_perms poll_chans on_failure transport_failed encoded with_integrity with_fingerprint push_attr
 repeats = refl
 
 -- over a reliable transport: one sending
 once : listing true (started 0 ∷ polled 500 ∷ polled 39499 ∷ polled 39500 ∷ polled 39501 ∷ [])
-    ≡ line 0 0 1 60 (some 39500) ∷ line 0 0 0 0 (some 39500) ∷ line 0 0 0 0 (some 39500) ∷ line 0 1 0 0 none ∷ line 0 0 0 0 none ∷ []
+    ≡ line 0 0 1 60 (Some 39500) ∷ line 0 0 0 0 (Some 39500) ∷ line 0 0 0 0 (Some 39500) ∷ line 0 1 0 0 None ∷ line 0 0 0 0 None ∷ []
 unfolding well_formed parts sequence subpart number insert_txn request start poll poll_due poll_refresh poll_perms poll_chans on_failure transport_failed encoded with_integrity with_fingerprint push_attr
 once = refl
 
@@ -147,7 +147,7 @@ no_room = refl
 abbrev sent : ℕ → Call
 sent n = Send 2000 (record { ip = V4 0xC0000202; port = 1 }) (replicate n 0) (replicate 12 1 ++ replicate 12 2) 65536
 
-data_2048 : map line_of (drop 2 (session [] [] false (started 0 ∷ granted 0 [] ∷ sent 2048 ∷ []))) ≡ line 0 0 2 2124 (some 2500) ∷ []
+data_2048 : map line_of (drop 2 (session [] [] false (started 0 ∷ granted 0 [] ∷ sent 2048 ∷ []))) ≡ line 0 0 2 2124 (Some 2500) ∷ []
 unfolding well_formed parts sequence subpart number insert_txn insert_perm insert_chan request start encoded with_integrity with_fingerprint push_attr handle on_success class is_stun is_channel_data decode_channel_data decode_xor_addr encode_xor_addr attributes_from readable get_of lifetime_of xor_addr_of send create_permission bind_channel
 data_2048 = refl
 

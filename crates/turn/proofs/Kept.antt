@@ -1,9 +1,9 @@
 -- What the steps of a call keep, every call keeps: a fact of the client, of the ids used and of the ids lent, that holds before a method
 -- runs and is kept by each assignment that a method can make, holds after it.
+use Rattle.std.specs.Prelude.{Option, None, Some}
 use mathlib.Core.Path.{◌≡◌, refl}
 use mathlib.Core.Bool.{Bool, true, false, cond, ◌&&◌, ◌||◌, not}
 use mathlib.Core.List.{List, [], ◌∷◌, map, ◌++◌}
-use mathlib.Core.Option.{Option, none, some}
 use mathlib.Core.Logic.{◌⊎◌, inl, inr}
 use Prim.Native.Nat.{ℕ, ◌+◌, ◌≤◌}
 use lib.ListN.{length}
@@ -11,15 +11,9 @@ use lib.Dec.{leb, ltb, eqb}
 use borrow.Author.Tests.{leb-true, not-true}
 use Rattle.stun_frame.specs.declared.classes.Class.{Class}
 use Rattle.stun_frame.specs.declared.classes.Class.TheVariants.{Request, Indication, Success, Error}
-use Rattle.stun_frame.specs.declared.Channel.{Channel}
-use Rattle.stun_frame.specs.declared.Channel.TheVariants.{Data as ChannelOf, Nothing as NoChannel}
 use Rattle.stun_frame.specs.Source.{class, field_at, decode_channel_data}
 use Rattle.stun_address.specs.declared.Ip.{Ip}
 use Rattle.stun_address.specs.declared.Address.{Address}
-use Rattle.stun_address.specs.declared.Peer.{Peer}
-use Rattle.stun_address.specs.declared.Peer.TheVariants.{At, Nothing as NoPeer}
-use Rattle.stun_walk.specs.declared.Found.{Found}
-use Rattle.stun_walk.specs.declared.Found.TheVariants.{At as Lies, Nothing as Missing}
 use Rattle.stun_walk.specs.Source.{readable, get_of, error_code_of, lifetime_of, xor_addr_of}
 use Rattle.turn_state.specs.declared.Kind.{Kind}
 use Rattle.turn_state.specs.declared.Kind.TheVariants.{Allocate, Refresh, Permission, ChannelBind}
@@ -31,6 +25,8 @@ use Rattle.turn_state.specs.Source.{under_id, for_ip, for_peer, of_number, inser
 use Rattle.turn_state.specs.Sequence.{Call, Start, Handle, Send, Poll, TransportFailed, Close}
 use Rattle.turn.proofs.Steps.{never, both, each_keeps}
 use Rattle.turn.proofs.Refused.{method_of}
+use Rattle.stun_frame.specs.declared.ChannelData.{ChannelData}
+use Rattle.stun_walk.specs.declared.Value.{Value}
 
 abbrev pub Fact : Type 1
 Fact = Turn → List (List ℕ) → List ℕ → Type 0
@@ -41,8 +37,8 @@ Anything kind = Unit {0}
 
 -- when a permission is to be renewed that a call at `now` asks for, or is granted
 pub data Renewal (now : ℕ) : Option ℕ → Type 0 where
-  not_yet : Renewal now none
-  later : Renewal now (some (now + PERMISSION_REFRESH))
+  not_yet : Renewal now None
+  later : Renewal now (Some (now + PERMISSION_REFRESH))
 
 -- a fact Q that the steps of a call keep, which is made at `now` and has the datagram `buf`, and what is known of the kinds of requests (K)
 pub record Keeps (now : ℕ) (buf : List ℕ) (K : Kind → Type 0) (Q : Fact) : Type 0 where
@@ -50,14 +46,14 @@ pub record Keeps (now : ℕ) (buf : List ℕ) (K : Kind → Type 0) (Q : Fact) :
   pub allocate : K Allocate
   pub refresh : K (Refresh 600)
   pub permission : (ip : Ip) → K (Permission ip)
-  pub bind : (peer : Address) (x : Chan) (c : Turn) (us : List (List ℕ)) (l : List ℕ) → get (for_peer peer) c.chans ≡ some x → Q c us l → K (ChannelBind peer x.num)
-  pub known : (tid : List ℕ) (t : Txn) (c : Turn) (us : List (List ℕ)) (l : List ℕ) → get (under_id tid) c.txns ≡ some t → Q c us l → K t.kind
+  pub bind : (peer : Address) (x : Chan) (c : Turn) (us : List (List ℕ)) (l : List ℕ) → get (for_peer peer) c.chans ≡ Some x → Q c us l → K (ChannelBind peer x.num)
+  pub known : (tid : List ℕ) (t : Txn) (c : Turn) (us : List (List ℕ)) (l : List ℕ) → get (under_id tid) c.txns ≡ Some t → Q c us l → K t.kind
   -- an id is drawn; a request is asked for under it
   pub drawn : (c : Turn) (us : List (List ℕ)) (l : List ℕ) → Q c us l → Q c (us ++ (id_at l (length us) ∷ [])) l
   pub asked : (t : Txn) (c : Turn) (us : List (List ℕ)) (l : List ℕ) → K t.kind → t.msg.tid ≡ id_at l (length us) → t.tries ≡ 1 → t.next ≡ now + first_wait c → Q c us l
       → Q (set_txns (insert (under_drawn t.msg.tid) t c.txns) c) (us ++ (id_at l (length us) ∷ [])) l
   -- one is repeated, removed, all are cleared
-  pub again : (tid : List ℕ) (t : Txn) (c : Turn) (us : List (List ℕ)) (l : List ℕ) → get (under_id tid) c.txns ≡ some t → leb MAX_TRIES t.tries ≡ false → Q c us l
+  pub again : (tid : List ℕ) (t : Txn) (c : Turn) (us : List (List ℕ)) (l : List ℕ) → get (under_id tid) c.txns ≡ Some t → leb MAX_TRIES t.tries ≡ false → Q c us l
       → Q (set_txns (insert (under_drawn t.msg.tid) (repeated now t) (remove (under_id tid) c.txns)) c) us l
   pub dropped : (tid : List ℕ) (c : Turn) (us : List (List ℕ)) (l : List ℕ) → Q c us l → Q (set_txns (remove (under_id tid) c.txns) c) us l
   pub cleared : (c : Turn) (us : List (List ℕ)) (l : List ℕ) → Q c us l → Q (set_txns [] c) us l
@@ -67,16 +63,16 @@ pub record Keeps (now : ℕ) (buf : List ℕ) (K : Kind → Type 0) (Q : Fact) :
   -- a peer gets the next number; its channel is written, and perhaps renewed; removed
   pub numbered : (x : Chan) (c : Turn) (us : List (List ℕ)) (l : List ℕ) → contains (for_peer x.peer) c.chans ≡ false → x.num ≡ c.next_num → x.num ≤ 0x7FFF → x.refresh_at ≡ now
       → Q c us l → Q (set_chans (insert (for_peer x.peer) x c.chans) (set_next_num (c.next_num + 1) c)) us l
-  pub written : (peer : Address) (x y : Chan) (c : Turn) (us : List (List ℕ)) (l : List ℕ) → get (for_peer peer) c.chans ≡ some x → y.num ≡ x.num → y.peer ≡ x.peer
+  pub written : (peer : Address) (x y : Chan) (c : Turn) (us : List (List ℕ)) (l : List ℕ) → get (for_peer peer) c.chans ≡ Some x → y.num ≡ x.num → y.peer ≡ x.peer
       → (y.refresh_at ≡ x.refresh_at) ⊎ (y.refresh_at ≡ now + CHANNEL_REFRESH) → Q c us l → Q (set_chans (insert (for_peer peer) y c.chans) c) us l
   pub unbound : (peer : Address) (c : Turn) (us : List (List ℕ)) (l : List ℕ) → Q c us l → Q (set_chans (remove (for_peer peer) c.chans) c) us l
   -- what the relay gives: realm with a key, nonce, the allocation, its renewal, which is then asked for
-  pub keyed : (realm key : List ℕ) (c : Turn) (us : List (List ℕ)) (l : List ℕ) → Q c us l → Q (set_realm (some realm) (set_key (some key) c)) us l
-  pub nonced : (nonce : List ℕ) (c : Turn) (us : List (List ℕ)) (l : List ℕ) → Q c us l → Q (set_nonce (some nonce) c) us l
+  pub keyed : (realm key : List ℕ) (c : Turn) (us : List (List ℕ)) (l : List ℕ) → Q c us l → Q (set_realm (Some realm) (set_key (Some key) c)) us l
+  pub nonced : (nonce : List ℕ) (c : Turn) (us : List (List ℕ)) (l : List ℕ) → Q c us l → Q (set_nonce (Some nonce) c) us l
   pub relayed : (relay : Address) (c : Turn) (us : List (List ℕ)) (l : List ℕ) → Q c us l
-      → Q (set_done true (set_relay (some relay) (set_refresh_at (some (refresh_time now (granted_or 600 (lifetime_of buf)))) c))) us l
-  pub renewed : (lifetime : ℕ) (c : Turn) (us : List (List ℕ)) (l : List ℕ) → K (Refresh lifetime) → Q c us l → Q (set_refresh_at (some (refresh_time now (granted_or lifetime (lifetime_of buf)))) c) us l
-  pub renewing : (c : Turn) (us : List (List ℕ)) (l : List ℕ) → Q c us l → Q (set_refresh_at none c) us l
+      → Q (set_done true (set_relay (Some relay) (set_refresh_at (Some (refresh_time now (granted_or 600 (lifetime_of buf)))) c))) us l
+  pub renewed : (lifetime : ℕ) (c : Turn) (us : List (List ℕ)) (l : List ℕ) → K (Refresh lifetime) → Q c us l → Q (set_refresh_at (Some (refresh_time now (granted_or lifetime (lifetime_of buf)))) c) us l
+  pub renewing : (c : Turn) (us : List (List ℕ)) (l : List ℕ) → Q c us l → Q (set_refresh_at None c) us l
   -- what the driver does: it closes, or has lost its transport; and an allocation that failed
   pub closed : (c : Turn) (us : List (List ℕ)) (l : List ℕ) → Q c us l → Q (set_closing true c) us l
   pub over : (c : Turn) (us : List (List ℕ)) (l : List ℕ) → Q c us l → Q (set_done true c) us l
@@ -86,9 +82,9 @@ choose : (P : Run → Type 0) (b : Bool) (x y : Run) → (b ≡ true → P x) �
 choose P true x y l r = l refl
 choose P false x y l r = r refl
 
-found : {X : Type 0} (P : Run → Type 0) (o : Option X) (f : X → Run) (s : Run) → ((x : X) → o ≡ some x → P (f x)) → P s → P (if_let o f s)
-found P none f s l r = r
-found P (some x) f s l r = l x refl
+found : {X : Type 0} (P : Run → Type 0) (o : Option X) (f : X → Run) (s : Run) → ((x : X) → o ≡ Some x → P (f x)) → P s → P (if_let o f s)
+found P None f s l r = r
+found P (Some x) f s l r = l x refl
 
 -- a channel that a bind's success writes keeps its number and its peer, and its time or gets a new one
 module _ (now num : ℕ) (c : Chan) where
@@ -163,7 +159,7 @@ module _ (now : ℕ) (buf : List ℕ) (K : Kind → Type 0) (Q : Fact) (k : Keep
   permission_kept : (ip : Ip) (s : Run) → Kept s → Kept (create_permission now ip s)
   unfolding create_permission
   permission_kept ip s h =
-      request_kept (Permission ip) _ (insert_perm (record { ip = ip; refresh = none }) s) (k.permission ip) refl (perm_kept (record { ip = ip; refresh = none }) s not_yet h)
+      request_kept (Permission ip) _ (insert_perm (record { ip = ip; refresh = None }) s) (k.permission ip) refl (perm_kept (record { ip = ip; refresh = None }) s not_yet h)
 
   failure_kept : (kind : Kind) (why : Reason) (s : Run) → Kept s → Kept (on_failure kind why s)
   unfolding on_failure
@@ -181,12 +177,12 @@ module _ (now : ℕ) (buf : List ℕ) (K : Kind → Type 0) (Q : Fact) (k : Keep
   unfolding on_success
   success_kept Allocate s q h = by (xor_addr_of buf 0x0016)
     where
-      by : (p : Peer) → Kept (allocated now buf p s)
-      by NoPeer = failure_kept Allocate NoRelayedAddress s h
-      by (At relay) = k.relayed relay s.self s.report.used s.lent h
+      by : (p : Option Address) → Kept (allocated now buf p s)
+      by None = failure_kept Allocate NoRelayedAddress s h
+      by (Some relay) = k.relayed relay s.self s.report.used s.lent h
   success_kept (Refresh lifetime) s q h = choose Kept (ltb 0 lifetime) _ s (λ e. k.renewed lifetime s.self s.report.used s.lent q h) (λ e. h)
   success_kept (Permission ip) s q h =
-      let p : Perm = record { ip = ip; refresh = some (now + PERMISSION_REFRESH) } in
+      let p : Perm = record { ip = ip; refresh = Some (now + PERMISSION_REFRESH) } in
       each_keeps Kept (bind_channel now) bind_kept (map (λ c. c.peer) (filter (waiting ip) (insert_perm p s).self.chans)) (insert_perm p s) (perm_kept p s later h)
   success_kept (ChannelBind peer num) s q h = update_kept peer (bound_at now num) s (bound_num now num) (bound_peer now num) (bound_time now num) h
 
@@ -217,10 +213,10 @@ module _ (now : ℕ) (buf : List ℕ) (K : Kind → Type 0) (Q : Fact) (k : Keep
       choose Kept (is_answer cls && passed s.self.key buf cls) (answered now buf cls t without) s
       (λ e. answered_kept cls t without q (k.dropped (tid_of buf) s.self s.report.used s.lent h)) (λ e. h)
 
-  indicated_kept : (p : Peer) (f : Found) (s : Run) → Kept s → Kept (indicated p f s)
-  indicated_kept (At peer) (Lies start len) s h = h
-  indicated_kept (At peer) Missing s h = h
-  indicated_kept NoPeer f s h = h
+  indicated_kept : (p : Option Address) (f : Option Value) (s : Run) → Kept s → Kept (indicated p f s)
+  indicated_kept (Some peer) (Some v) s h = h
+  indicated_kept (Some peer) None s h = h
+  indicated_kept None f s h = h
 
   message_kept : (s : Run) → Kept s → Kept (handle_message now buf s)
   message_kept s h =
@@ -232,9 +228,9 @@ module _ (now : ℕ) (buf : List ℕ) (K : Kind → Type 0) (Q : Fact) (k : Keep
   unfolding handle
   handle_kept s h = by (decode_channel_data buf)
     where
-      by : (c : Channel) → Kept (handle_channel now buf c s)
-      by (ChannelOf num start len) = found Kept (get (of_number num) s.self.chans) _ s (λ c e. h) h
-      by NoChannel = choose Kept (readable buf) (handle_message now buf s) s (λ e. message_kept s h) (λ e. h)
+      by : (c : Option ChannelData) → Kept (handle_channel now buf c s)
+      by (Some d) = found Kept (get (of_number d.number) s.self.chans) _ s (λ c e. h) h
+      by None = choose Kept (readable buf) (handle_message now buf s) s (λ e. message_kept s h) (λ e. h)
 
   -- the one place where a number is given
   new_kept : (peer : Address) (s : Run) → contains (for_peer peer) s.self.chans ≡ false → s.self.next_num ≤ 0x7FFF → Kept s → Kept (new_channel now peer s)
@@ -269,7 +265,7 @@ module _ (now : ℕ) (buf : List ℕ) (K : Kind → Type 0) (Q : Fact) (k : Keep
   unfolding poll_refresh
   refresh_kept s h =
       choose Kept (is_due now s.self.refresh_at) _ s
-      (λ e. request_kept (Refresh 600) _ (on_self (set_refresh_at none) s) k.refresh refl (k.renewing s.self s.report.used s.lent h)) (λ e. h)
+      (λ e. request_kept (Refresh 600) _ (on_self (set_refresh_at None) s) k.refresh refl (k.renewing s.self s.report.used s.lent h)) (λ e. h)
 
   perms_kept : (s : Run) → Kept s → Kept (poll_perms now s)
   unfolding poll_perms

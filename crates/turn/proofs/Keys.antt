@@ -1,8 +1,8 @@
 -- The definition's lists are maps: no key stands twice in them. An insert under a record's own key keeps that, and so does a removal.
+use Rattle.std.specs.Prelude.{Some}
 use mathlib.Core.Path.{◌≡◌, refl, ap, sym, subst, ◌∙◌}
 use mathlib.Core.Bool.{Bool, true, false, cond, ◌&&◌}
 use mathlib.Core.List.{List, [], ◌∷◌}
-use mathlib.Core.Option.{some}
 use Prim.Native.Nat.{ℕ}
 use native.Mathlib.Omega.{arith}
 use lib.Dec.{eqb}
@@ -69,15 +69,15 @@ module _ {R K : Type 0} (key : R → K) (eq : K → K → Bool) where
         by false rest = one_more r (contains_remove (key r) is l h) rest
 
     -- what is found has the key, so one written where it stands is an insert under its own
-    pub found_key : (k : K) (r : R) (l : List R) → get (λ x. eq (key x) k) l ≡ some r → key r ≡ k
+    pub found_key : (k : K) (r : R) (l : List R) → get (λ x. eq (key x) k) l ≡ Some r → key r ≡ k
     found_key k r [] e = let z : ◌≡◌ {A = ℕ} 0 1 = cc in let f : ⊥ = omega arith in absurd f
     found_key k r (d ∷ l) e = by (eq (key d) k) refl e (found_key k r l)
       where
-        by : (b : Bool) → eq (key d) k ≡ b → cond b (some d) (get (λ x. eq (key x) k) l) ≡ some r → (get (λ x. eq (key x) k) l ≡ some r → key r ≡ k) → key r ≡ k
+        by : (b : Bool) → eq (key d) k ≡ b → cond b (Some d) (get (λ x. eq (key x) k) l) ≡ Some r → (get (λ x. eq (key x) k) l ≡ Some r → key r ≡ k) → key r ≡ k
         by true q e rest = let i : d ≡ r = cc in ap key (sym i) ∙ sound (key d) k q
         by false q e rest = rest e
 
-    pub unique_written : (k : K) (r new : R) {l : List R} → get (λ x. eq (key x) k) l ≡ some r → key new ≡ key r → Unique l → Unique (insert (λ x. eq (key x) k) new l)
+    pub unique_written : (k : K) (r new : R) {l : List R} → get (λ x. eq (key x) k) l ≡ Some r → key new ≡ key r → Unique l → Unique (insert (λ x. eq (key x) k) new l)
     unique_written k r new {l = l} e n u =
         subst (λ (z : K). Unique (insert (λ x. eq (key x) z) new l)) (n ∙ found_key k r l e) (unique_insert new u)
 

@@ -1,17 +1,15 @@
 -- "What the client does", what is easily missed there: repeats and their waits, the retry, what `close` and a lost transport leave, what
 -- a closing client still does, and what `poll` tells.
+use Rattle.std.specs.Prelude.{None, Some}
 use mathlib.Core.Path.{◌≡◌, refl, ap, sym, subst, ◌∙◌}
 use mathlib.Core.Bool.{Bool, true, false, cond, ◌&&◌, ◌||◌, not, and-false, or-true}
 use mathlib.Core.List.{List, [], ◌∷◌, ◌++◌, map}
-use mathlib.Core.Option.{none, some}
 use Prim.Native.Nat.{ℕ, ◌+◌, ◌≤◌, ◌<◌}
 use lib.ListN.{length}
 use lib.Dec.{leb}
 use borrow.Author.Tests.{lt-ltb, le-leb, lt-leb}
 use Rattle.stun_address.specs.declared.Address.{Address}
 use Rattle.stun_address.specs.declared.Ip.{Ip}
-use Rattle.stun_address.specs.declared.Peer.TheVariants.{At}
-use Rattle.stun_walk.specs.declared.Granted.TheVariants.{NoLifetime}
 use Rattle.stun_walk.specs.Source.{lifetime_of, xor_addr_of}
 use Rattle.stun_check.specs.Source.{long_term}
 use Rattle.turn_state.proofs.Times.{afresh}
@@ -54,7 +52,7 @@ module _ (now : ℕ) (t : Txn) where
   wait_6 e = rw e
 
 -- a pending request whose time has come
-module _ (now : ℕ) (tid : List ℕ) (s : Run) (t : Txn) (pending : get (under_id tid) s.self.txns ≡ some t) where
+module _ (now : ℕ) (tid : List ℕ) (s : Run) (t : Txn) (pending : get (under_id tid) s.self.txns ≡ Some t) where
   abbrev without : Run
   without = on_self (set_txns (remove (under_id tid) s.self.txns)) s
 
@@ -77,10 +75,10 @@ module _ (now : ℕ) (tid : List ℕ) (s : Run) (t : Txn) (pending : get (under_
     put_back = ap (λ (r : Run). r.self) sent_again ∙ inserted (repeated now t) (push_message (encode s.self t.msg) without)
 
     -- with a realm and a nonce, these are the ones held then
-    pub credentials : (realm nonce : List ℕ) → s.self.realm ≡ some realm → s.self.nonce ≡ some nonce
+    pub credentials : (realm nonce : List ℕ) → s.self.realm ≡ Some realm → s.self.nonce ≡ Some nonce
         → (poll_due now tid s).out
         ≡ s.out
-        ++ (encode_message (record { typ = t.msg.typ; tid = t.msg.tid; attrs = t.msg.attrs ++ auth s.self.username (some realm) (some nonce) })
+        ++ (encode_message (record { typ = t.msg.typ; tid = t.msg.tid; attrs = t.msg.attrs ++ auth s.self.username (Some realm) (Some nonce) })
         (signing s.self.key) true ∷ [])
     credentials realm nonce er en = afresh now tid s t pending udp left ∙ rw (er, en)
 
@@ -88,10 +86,10 @@ module _ (now : ℕ) (tid : List ℕ) (s : Run) (t : Txn) (pending : get (under_
 abbrev with_realm : List ℕ → Run → Run
 with_realm realm s =
     on_report (report_text (length realm))
-    (on_self (λ c. set_realm (some realm) (set_key (some (long_term c.username realm c.password)) c)) s)
+    (on_self (λ c. set_realm (Some realm) (set_key (Some (long_term c.username realm c.password)) c)) s)
 
 abbrev with_nonce : List ℕ → Run → Run
-with_nonce nonce s = on_report (report_text (length nonce)) (on_self (set_nonce (some nonce)) s)
+with_nonce nonce s = on_report (report_text (length nonce)) (on_self (set_nonce (Some nonce)) s)
 
 -- the retry of a 401 or 438: the same attributes under a new id, tries 1
 abbrev again : ℕ → List ℕ → Txn → Turn → Txn
@@ -162,34 +160,34 @@ module _ (buf : List ℕ) (s : Run) where
         ap (λ (r : Run). r.out) retried ∙ inserted_out new (push_message (encode taken.self new.msg) (drew taken)) ∙ rw (taken_out, retried_self)
 
     -- a given realm replaces realm and key, a given nonce the nonce
-    pub new_realm : (realm : List ℕ) → get_str buf 0x0014 ≡ some realm → (retry now buf t s).self.realm ≡ some realm
+    pub new_realm : (realm : List ℕ) → get_str buf 0x0014 ≡ Some realm → (retry now buf t s).self.realm ≡ Some realm
     new_realm realm e = ap (λ (c : Turn). c.realm) retried_self ∙ taken_realm ∙ rw e
 
-    pub new_key : (realm : List ℕ) → get_str buf 0x0014 ≡ some realm
-        → (retry now buf t s).self.key ≡ some (long_term s.self.username realm s.self.password)
+    pub new_key : (realm : List ℕ) → get_str buf 0x0014 ≡ Some realm
+        → (retry now buf t s).self.key ≡ Some (long_term s.self.username realm s.self.password)
     new_key realm e = ap (λ (c : Turn). c.key) retried_self ∙ taken_key ∙ rw e
 
-    pub new_nonce : (nonce : List ℕ) → get_str buf 0x0015 ≡ some nonce → (retry now buf t s).self.nonce ≡ some nonce
+    pub new_nonce : (nonce : List ℕ) → get_str buf 0x0015 ≡ Some nonce → (retry now buf t s).self.nonce ≡ Some nonce
     new_nonce nonce e = ap (λ (c : Turn). c.nonce) retried_self ∙ rw e
 
     -- what is not given stays
-    pub kept_realm : get_str buf 0x0014 ≡ none → (retry now buf t s).self.realm ≡ s.self.realm
+    pub kept_realm : get_str buf 0x0014 ≡ None → (retry now buf t s).self.realm ≡ s.self.realm
     kept_realm e = ap (λ (c : Turn). c.realm) retried_self ∙ taken_realm ∙ rw e
 
-    pub kept_key : get_str buf 0x0014 ≡ none → (retry now buf t s).self.key ≡ s.self.key
+    pub kept_key : get_str buf 0x0014 ≡ None → (retry now buf t s).self.key ≡ s.self.key
     kept_key e = ap (λ (c : Turn). c.key) retried_self ∙ taken_key ∙ rw e
 
-    pub kept_nonce : get_str buf 0x0015 ≡ none → (retry now buf t s).self.nonce ≡ s.self.nonce
+    pub kept_nonce : get_str buf 0x0015 ≡ None → (retry now buf t s).self.nonce ≡ s.self.nonce
     kept_nonce e = ap (λ (c : Turn). c.nonce) retried_self ∙ rw e before_nonce
 
 -- a missing lifetime means 600 for Allocate, the asked one for Refresh; a failed Refresh changes nothing more
-pub allocate_600 : (now : ℕ) (buf : List ℕ) (s : Run) (relay : Address) → xor_addr_of buf 0x0016 ≡ At relay → lifetime_of buf ≡ NoLifetime
-    → (on_success now Allocate buf s).self.refresh_at ≡ some (now + 540000)
+pub allocate_600 : (now : ℕ) (buf : List ℕ) (s : Run) (relay : Address) → xor_addr_of buf 0x0016 ≡ Some relay → lifetime_of buf ≡ None
+    → (on_success now Allocate buf s).self.refresh_at ≡ Some (now + 540000)
 unfolding on_success
 allocate_600 now buf s relay er el = rw (er, el)
 
-pub refresh_asked : (now lifetime : ℕ) (buf : List ℕ) (s : Run) → 0 < lifetime → lifetime_of buf ≡ NoLifetime
-    → (on_success now (Refresh lifetime) buf s).self.refresh_at ≡ some (refresh_time now lifetime)
+pub refresh_asked : (now lifetime : ℕ) (buf : List ℕ) (s : Run) → 0 < lifetime → lifetime_of buf ≡ None
+    → (on_success now (Refresh lifetime) buf s).self.refresh_at ≡ Some (refresh_time now lifetime)
 unfolding on_success
 refresh_asked now lifetime buf s h el = rw (lt-ltb 0 lifetime h, el)
 
@@ -198,7 +196,7 @@ unfolding on_failure
 refresh_failed lifetime why s = refl
 
 -- `close` clears requests and sends one Refresh of 0, which is kept nowhere; the client is closing and waits for nothing
-module _ (s : Run) (relay : Address) (relayed : s.self.relay ≡ some relay) (serving : s.self.closing ≡ false) where
+module _ (s : Run) (relay : Address) (relayed : s.self.relay ≡ Some relay) (serving : s.self.closing ≡ false) where
   closes : close s ≡ push_message (encode s.self (refresh_message 0 (new_tid s))) (drew (on_self (λ c. set_txns [] (set_closing true c)) s))
   unfolding close
   closes = let goes : (not (is_some s.self.relay) || s.self.closing) ≡ false = rw (relayed, serving) in rw goes
@@ -212,11 +210,11 @@ module _ (s : Run) (relay : Address) (relayed : s.self.relay ≡ some relay) (se
   pub close_unrecorded : (close s).report.added ≡ s.report.added
   close_unrecorded = ap (λ (r : Run). r.report.added) closes
 
-  pub close_deadline : next_deadline (close s).self ≡ none
+  pub close_deadline : next_deadline (close s).self ≡ None
   close_deadline = rw closed
 
 -- without a relay, and when closing already, it does nothing
-pub close_unrelayed : (s : Run) → s.self.relay ≡ none → close s ≡ s
+pub close_unrelayed : (s : Run) → s.self.relay ≡ None → close s ≡ s
 unfolding close
 close_unrelayed s e = let stays : (not (is_some s.self.relay) || s.self.closing) ≡ true = rw e in rw stays
 
@@ -251,10 +249,10 @@ module _ (s : Run) where
   lost_out : (transport_failed s).out ≡ s.out
   lost_out = lost_way (λ r. r.out) s.out refl refl
 
-  pub lost_deadline : next_deadline (transport_failed s).self ≡ none
-  lost_deadline = lost_way (λ r. next_deadline r.self) none refl refl
+  pub lost_deadline : next_deadline (transport_failed s).self ≡ None
+  lost_deadline = lost_way (λ r. next_deadline r.self) None refl refl
 
-  pub lost_quiet : (relay : Address) → s.self.done ≡ true → s.self.relay ≡ some relay → (transport_failed s).ev ≡ s.ev
+  pub lost_quiet : (relay : Address) → s.self.done ≡ true → s.self.relay ≡ Some relay → (transport_failed s).ev ≡ s.ev
   unfolding transport_failed
   lost_quiet relay ed er = let q : quiet ≡ true = rw (ed, er) in rw q
 
@@ -262,7 +260,7 @@ module _ (s : Run) where
   unfolding transport_failed
   lost_undone e = let q : quiet ≡ false = rw e in rw q
 
-  pub lost_unrelayed : s.self.relay ≡ none → (transport_failed s).ev ≡ s.ev ++ (Failed Lost ∷ [])
+  pub lost_unrelayed : s.self.relay ≡ None → (transport_failed s).ev ≡ s.ev ++ (Failed Lost ∷ [])
   unfolding transport_failed
   lost_unrelayed e = let q : quiet ≡ false = rw e (and-false s.self.done) in rw q
 
@@ -271,13 +269,13 @@ pub lost_taken : (c : Turn) → number (given_of TransportFailed) c (run_of c Tr
 unfolding number
 lost_taken c = rw (lost_report (begin c []), lost_out (begin c []))
 
-pub lost_answer : (c : Turn) → c.relay ≡ none → (outcome c TransportFailed).events ≡ Failed Lost ∷ []
+pub lost_answer : (c : Turn) → c.relay ≡ None → (outcome c TransportFailed).events ≡ Failed Lost ∷ []
 lost_answer c e = ap (λ (o : Outcome). o.events) (done c TransportFailed (lost_taken c)) ∙ lost_unrelayed (begin c []) e
 
-still_none : (c : Turn) → c.relay ≡ none → (outcome c TransportFailed).client.relay ≡ none
+still_none : (c : Turn) → c.relay ≡ None → (outcome c TransportFailed).client.relay ≡ None
 still_none c e = ap (λ (o : Outcome). o.client.relay) (done c TransportFailed (lost_taken c)) ∙ lost_relay (begin c []) ∙ e
 
-pub lost_twice : (c : Turn) → c.relay ≡ none → map (λ t. t.outcome.events) (answers c (TransportFailed ∷ TransportFailed ∷ [])) ≡ (Failed Lost ∷ []) ∷ (Failed Lost ∷ []) ∷ []
+pub lost_twice : (c : Turn) → c.relay ≡ None → map (λ t. t.outcome.events) (answers c (TransportFailed ∷ TransportFailed ∷ [])) ≡ (Failed Lost ∷ []) ∷ (Failed Lost ∷ []) ∷ []
 lost_twice c e = rw (lost_answer c e, lost_answer (outcome c TransportFailed).client (still_none c e))
 
 -- a failure neither draws an id nor ends a closing
@@ -317,7 +315,7 @@ module _ (now : ℕ) where
     pub closing_used : (poll now s).report.used ≡ s.report.used
     closing_used = ap (λ (r : Run). r.report.used) closing_poll ∙ due_used (due_of now s.self) s
 
-pub closing_deadline : (c : Turn) → c.closing ≡ true → next_deadline c ≡ least (map (λ t. some t.next) c.txns)
+pub closing_deadline : (c : Turn) → c.closing ≡ true → next_deadline c ≡ least (map (λ t. Some t.next) c.txns)
 closing_deadline c e = rw e
 
 -- an event that `poll` may give

@@ -1,9 +1,9 @@
 -- Every call keeps the channels' numbers: from 0x4000 to 0x7FFF, rising, and all below the next one, which never falls. So none is
 -- reused, and `by_num` (Channels) is told by the channels in every client that calls lead to.
+use Rattle.std.specs.Prelude.{Option, None, Some}
 use mathlib.Core.Path.{◌≡◌, refl, ap, sym, subst, ◌∙◌}
 use mathlib.Core.Bool.{Bool, false, cond}
 use mathlib.Core.List.{List}
-use mathlib.Core.Option.{Option, none, some}
 use Prim.Native.Nat.{ℕ, suc, ◌+◌, ◌≤◌}
 use native.Mathlib.Omega.{arith}
 use native.Mathlib.Numerals.{add-one}
@@ -103,7 +103,7 @@ bind_chans now peer s =
 
 module _ (floor : ℕ) (s : Run) (h : Numbered floor s.self) (peer : Address) (num : ℕ) where
   pub new_by_num : (now : ℕ) → contains (for_peer peer) s.self.chans ≡ false
-      → peer_of num (new_channel now peer s).self.chans ≡ cond (eqb s.self.next_num num) (some peer) (peer_of num s.self.chans)
+      → peer_of num (new_channel now peer s).self.chans ≡ cond (eqb s.self.next_num num) (Some peer) (peer_of num s.self.chans)
   new_by_num now e =
       let c : Chan = record { peer = peer; num = s.self.next_num; bound = false; refresh_at = now } in
       let s₁ : Run = insert_chan c (on_self (set_next_num (s.self.next_num + 1)) s) in
@@ -113,12 +113,12 @@ module _ (floor : ℕ) (s : Run) (h : Numbered floor s.self) (peer : Address) (n
       let one : s₁.self.chans ≡ insert (for_peer peer) c s.self.chans = ap (λ (d : Turn). d.chans) (inserted_chan c (on_self (set_next_num (s.self.next_num + 1)) s)) in
       ap (peer_of num) (same ∙ one) ∙ by_num_insert c num e h.2
 
-  pub failure_by_num : (asked : ℕ) (why : Reason) (c : Chan) → get (for_peer peer) s.self.chans ≡ some c
-      → peer_of num (on_failure (ChannelBind peer asked) why s).self.chans ≡ cond (eqb c.num num) none (peer_of num s.self.chans)
+  pub failure_by_num : (asked : ℕ) (why : Reason) (c : Chan) → get (for_peer peer) s.self.chans ≡ Some c
+      → peer_of num (on_failure (ChannelBind peer asked) why s).self.chans ≡ cond (eqb c.num num) None (peer_of num s.self.chans)
   unfolding on_failure
   failure_by_num asked why c e = by_num_remove (for_peer peer) c num h.2 e
 
-  pub no_failure_by_num : (asked : ℕ) (why : Reason) → get (for_peer peer) s.self.chans ≡ none → (on_failure (ChannelBind peer asked) why s).self.chans ≡ s.self.chans
+  pub no_failure_by_num : (asked : ℕ) (why : Reason) → get (for_peer peer) s.self.chans ≡ None → (on_failure (ChannelBind peer asked) why s).self.chans ≡ s.self.chans
   unfolding on_failure
   no_failure_by_num asked why e = by_num_missing (for_peer peer) s.self.chans e
 
@@ -127,5 +127,5 @@ module _ (floor : ℕ) (s : Run) (h : Numbered floor s.self) (peer : Address) (n
     where
       by : (o : Option Chan) → get (for_peer peer) s.self.chans ≡ o
           → peer_of num (if_let o (λ c. on_self (set_chans (insert (for_peer peer) (f c) s.self.chans)) s) s).self.chans ≡ peer_of num s.self.chans
-      by none e = refl
-      by (some c) e = by_num_kept (for_peer peer) c (f c) num s.self.chans e (n c) (p c)
+      by None e = refl
+      by (Some c) e = by_num_kept (for_peer peer) c (f c) num s.self.chans e (n c) (p c)

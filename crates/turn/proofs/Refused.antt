@@ -1,5 +1,6 @@
 -- "Numbers a caller may get back": a refused call of any kind changes nothing and tells nothing, so that the calls after it go as if it
 -- had not been made; the lowest number wins; 0 says that no condition holds.
+use Rattle.std.specs.Prelude.{None}
 use mathlib.Core.Path.{◌≡◌, refl, ap}
 use mathlib.Core.Bool.{Bool, true, false, ◌||◌}
 use mathlib.Core.List.{List, [], ◌∷◌}
@@ -8,7 +9,6 @@ use native.Mathlib.Omega.{arith}
 use lib.ListN.{length}
 use lib.Dec.{ltb, eqb-suc-zero}
 use borrow.Author.Tests.{lt-ltb, le-ltb, ne_eqb}
-use Rattle.stun_frame.specs.declared.Channel.TheVariants.{Nothing as NoChannel}
 use Rattle.stun_frame.specs.Source.{decode_channel_data}
 use Rattle.stun_walk.specs.Source.{readable}
 use Rattle.turn_state.specs.State.{Turn, Run, begin, ids_in}
@@ -163,7 +163,7 @@ idle g c t d =
     rw (le-ltb 9007199254740991 g.time t, le-ltb 2048 g.data_len d, le-ltb (ids_in g.ids) 0 (omega arith), le-ltb g.room 0 (omega arith))
 
 -- so `handle` on unreadable bytes gives 0 and does nothing
-pub unreadable : (c : Turn) (now : ℕ) (buf ids : List ℕ) (room : ℕ) → now ≤ 9007199254740991 → decode_channel_data buf ≡ NoChannel → readable buf ≡ false
+pub unreadable : (c : Turn) (now : ℕ) (buf ids : List ℕ) (room : ℕ) → now ≤ 9007199254740991 → decode_channel_data buf ≡ None → readable buf ≡ false
     → outcome c (Handle now buf ids room) ≡ record { refusal = 0; client = c; events = []; packets = [] }
 unfolding handle
 unreadable c now buf ids room t ec er =

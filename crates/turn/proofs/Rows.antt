@@ -1,8 +1,8 @@
 -- A fact of each row of a list: an insert keeps it where it holds of the new row, a removal keeps it, and it holds of a row that is found.
+use Rattle.std.specs.Prelude.{Some}
 use mathlib.Core.Path.{◌≡◌, subst}
 use mathlib.Core.Bool.{Bool, true, false, cond}
 use mathlib.Core.List.{List, ◌∷◌}
-use mathlib.Core.Option.{some}
 use Prim.Native.Nat.{ℕ}
 use native.Mathlib.Omega.{arith}
 use Rattle.turn_state.specs.Maps.{get, insert, remove}
@@ -25,10 +25,10 @@ module _ {R : Type 0} (P : R → Type 0) (is : R → Bool) where
       by true rest = e
       by false rest = row k rest
 
-  pub each_get : (x : R) {l : List R} → Each P l → get is l ≡ some x → P x
+  pub each_get : (x : R) {l : List R} → Each P l → get is l ≡ Some x → P x
   each_get x no_rows e = let z : ◌≡◌ {A = ℕ} 0 1 = cc in let f : ⊥ = omega arith in absurd f
   each_get x (row {r = r} {rest = l} k h) e = by (is r) e (each_get x h)
     where
-      by : (b : Bool) → cond b (some r) (get is l) ≡ some x → (get is l ≡ some x → P x) → P x
+      by : (b : Bool) → cond b (Some r) (get is l) ≡ Some x → (get is l ≡ Some x → P x) → P x
       by true e rest = let i : r ≡ x = cc in subst P i k
       by false e rest = rest e

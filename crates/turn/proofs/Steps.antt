@@ -1,8 +1,8 @@
 -- Steps that the methods share: what a request that is put in leaves as it is, and what a loop keeps.
+use Rattle.std.specs.Prelude.{Option, None, Some}
 use mathlib.Core.Path.{◌≡◌, refl, ap, sym}
 use mathlib.Core.Bool.{Bool, true, false, cond, ◌&&◌, ◌||◌}
 use mathlib.Core.List.{List, [], ◌∷◌}
-use mathlib.Core.Option.{Option, none, some}
 use Prim.Native.Nat.{ℕ}
 use native.Mathlib.Omega.{arith}
 use lib.ListN.{length}
@@ -27,8 +27,8 @@ either_way p true x y v l r = l
 either_way p false x y v l r = r
 
 pub if_there : {X A : Type 0} (p : Run → A) (o : Option X) (f : X → Run) (s : Run) (v : A) → ((x : X) → p (f x) ≡ v) → p s ≡ v → p (if_let o f s) ≡ v
-if_there p none f s v l r = r
-if_there p (some x) f s v l r = l x
+if_there p None f s v l r = r
+if_there p (Some x) f s v l r = l x
 
 -- the report of a record touches only the records added
 module _ (room held : ℕ) (s : Run) where
@@ -85,8 +85,8 @@ due_keeps P now out fail put tid s h = found (get (under_id tid) s.self.txns)
 
     found : (o : Option Txn)
         → P (if_let o (λ t. cond (without.self.reliable || leb 6 t.tries) (on_failure t.kind Timeout without) (insert_txn (repeated now t) (push_message (encode without.self t.msg) without))) s)
-    found none = h
-    found (some t) = chosen (without.self.reliable || leb 6 t.tries)
+    found None = h
+    found (Some t) = chosen (without.self.reliable || leb 6 t.tries)
       where
         chosen : (b : Bool) → P (cond b (on_failure t.kind Timeout without) (insert_txn (repeated now t) (push_message (encode without.self t.msg) without)))
         chosen true = fail t.kind without (out s _ h)

@@ -1,151 +1,74 @@
 // A call and the line about it: LABEL REFUSAL EVENTS PACKETS BYTES DEADLINE, then what is told, whether the lent output after the
-// packets is as it was, for a refused call whether the client is, and the CRC-32 of what was written. Below it, the first twenty bytes
-// of each packet, where there are at most eight.
-ghost use Rattle.std.specs.Prelude.{◌≡◌, ◌≤◌, length};
+// packets is as it was, that a refused call leaves the client with its caller, and the CRC-32 of what was written. Below it, the first
+// twenty bytes of each packet, where there are at most eight.
+ghost use Rattle.std.specs.Prelude.{◌≤◌};
 
-use std::io;
-use turn_deadline::Deadline;
-use turn_state::{Answer, Client, Event, Reason};
+use std::{fmt, io};
+use turn_state::{Answer, Client, Event, Reason, Refusal};
 
-pub fn print(rt: &impl Print, s: &[u8]) -> io::Result<()> {
-    rt.write_all(s)
-}
+// The deadline of a client, or a dash.
+#[derive(Clone, Copy)]
+struct Due(Option<u64>);
 
-fn number(rt: &impl Print, n: u64) -> io::Result<()> {
-    print(rt, b" ")?;
-    print!(rt; "{n}")
-}
-
-fn size(rt: &impl Print, n: usize) -> io::Result<()> {
-    number(rt, n as u64)
-}
-
-// The packets' bytes without the three of each head.
-fn bare(len: usize, packets: usize) -> usize {
-    if 65536 < packets {
-        return 0;
+impl fmt::Display for Due {
+    fn fmt<W: fmt::Write>(&self, f: &mut fmt::Formatter<W>) -> fmt::Result {
+        match self.0 {
+            Some(time) => write!(f, "{time}"),
+            None => write!(f, "-"),
+        }
     }
-    if len < 3 * packets {
-        return 0;
-    }
-    len - 3 * packets
 }
 
-fn print_deadline(rt: &impl Print, client: Client) -> io::Result<()> {
-    match turn_deadline::next_deadline(client) {
-        Deadline::At(t) => number(rt, t)?,
-        Deadline::Never => print(rt, b" -")?,
-    }
-    Ok(())
+fn deadline_of(client: Client) -> Due {
+    Due(turn_deadline::next_deadline(client))
 }
 
-fn print_reason(rt: &impl Print, reason: Reason) -> io::Result<()> {
-    match reason {
-        Reason::Timeout => print(rt, b" timeout")?,
-        Reason::Lost => print(rt, b" lost")?,
-        Reason::Code(_) => print(rt, b" code")?,
-        Reason::NoRelayedAddress => print(rt, b" no-address")?,
+// A blank and a word for what is told, if anything is.
+#[derive(Clone, Copy)]
+struct Told(Option<Event>);
+
+impl fmt::Display for Told {
+    fn fmt<W: fmt::Write>(&self, f: &mut fmt::Formatter<W>) -> fmt::Result {
+        match self.0 {
+            None => Ok(()),
+            Some(Event::Failed(Reason::Timeout)) => write!(f, " timeout"),
+            Some(Event::Failed(Reason::Lost)) => write!(f, " lost"),
+            Some(Event::Failed(Reason::Code(_))) => write!(f, " code"),
+            Some(Event::Failed(Reason::NoRelayedAddress)) => write!(f, " no-address"),
+            Some(Event::Allocated(_, _)) => write!(f, " allocated"),
+            Some(Event::Data(_, _, _)) => write!(f, " data"),
+        }
     }
-    Ok(())
 }
 
-fn print_event(rt: &impl Print, event: Event) -> io::Result<()> {
-    match event {
-        Event::Nothing => print(rt, b"")?,
-        Event::Failed(reason) => print_reason(rt, reason)?,
-        Event::Allocated(_, _) => print(rt, b" allocated")?,
-        Event::Data(_, _, _) => print(rt, b" data")?,
+// The number of a call, and its answer: of a refused one nothing, and the client as it was.
+fn numbered(client: Client, outcome: Result<Answer, Refusal>) -> (u32, Answer) {
+    match outcome {
+        Ok(answer) => (0, answer),
+        Err(refusal) => (u32::from(refusal), Answer::quiet(client)),
     }
-    Ok(())
 }
 
 // The line as document 01 has it, without its end.
-pub fn print_answer(rt: &impl Print, label: &[u8], a: Answer) -> io::Result<()> {
-    print(rt, label)?;
-    number(rt, a.refusal as u64)?;
-    size(rt, a.events)?;
-    size(rt, a.packets)?;
-    size(rt, bare(a.len, a.packets))?;
-    let client = a.client;
-    print_deadline(rt, client)
+fn print_answer(rt: &impl Print, label: &str, number: u32, answer: &Answer) -> io::Result<()> {
+    let events = answer.events;
+    let packets = answer.packets;
+    let bytes = answer.len.saturating_sub(packets.saturating_mul(3));
+    let due = deadline_of(answer.client);
+    print!(rt; "{label} {number} {events} {packets} {bytes} {due}")
 }
 
 // The line as document 01 has it.
-pub fn listed(rt: &impl Print, label: &[u8], a: Answer) -> io::Result<Client> {
-    print_answer(rt, label, a)?;
-    print(rt, b"\n")?;
-    Ok(a.client)
-}
-
-// Are the bytes from a place on as they were lent?
-fn kept(out: &[u8], from: usize) -> bool {
-    let n = out.len();
-    let mut i = from;
-    while i < n {
-        if out[i] != 0xAA {
-            return false;
-        }
-        i += 1;
-    }
-    true
-}
-
-// The deadline; what no time reaches stands for none.
-fn due(client: Client) -> u64 {
-    match turn_deadline::next_deadline(client) {
-        Deadline::At(t) => t,
-        Deadline::Never => 18446744073709551615,
-    }
-}
-
-// Have two clients one deadline, and tables of the same lengths?
-fn same(a: Client, b: Client) -> bool {
-    if due(a) != due(b) {
-        return false;
-    }
-    if a.requests.len != b.requests.len {
-        return false;
-    }
-    if a.permissions.len != b.permissions.len {
-        return false;
-    }
-    a.channels.len == b.channels.len
-}
-
-fn print_kept(rt: &impl Print, out: &[u8], from: usize) -> io::Result<()> {
-    if kept(out, from) {
-        print(rt, b" kept")?;
-    } else {
-        print(rt, b" spoilt")?;
-    }
-    Ok(())
-}
-
-fn print_same(rt: &impl Print, refusal: u32, a: Client, b: Client) -> io::Result<()> {
-    if refusal == 0 {
-        return Ok(());
-    }
-    if same(a, b) {
-        print(rt, b" same")?;
-    } else {
-        print(rt, b" other")?;
-    }
-    Ok(())
-}
-
-fn print_sum(rt: &impl Print, out: &[u8], len: usize) -> io::Result<()> {
-    if len == 0 {
-        return Ok(());
-    }
-    if out.len() < len {
-        return Ok(());
-    }
-    print(rt, b" ")?;
-    print!(rt; "{:08x}", crc32::digest(&out[0..len]))
-}
-
-fn joined(high: u8, low: u8) -> usize {
-    high as usize * 256 + low as usize
+pub fn listed(
+    rt: &impl Print,
+    label: &str,
+    client: Client,
+    outcome: Result<Answer, Refusal>,
+) -> io::Result<Client> {
+    let (number, answer) = numbered(client, outcome);
+    print_answer(rt, label, number, &answer)?;
+    println!(rt; "")?;
+    Ok(answer.client)
 }
 
 // The headers of the packets.
@@ -153,53 +76,64 @@ fn print_heads(rt: &impl Print, out: &[u8], packets: usize) -> io::Result<()> {
     if 8 < packets {
         return Ok(());
     }
-    let n = out.len();
-    let mut at = 0;
-    let mut k = 0;
-    while k < packets {
-        if n - at < 23 {
-            return Ok(());
+    let mut rest = out;
+    for _ in 0..packets {
+        let Some((head, after)) = rest.split_first_chunk::<3>() else {
+            break;
+        };
+        let Some(header) = after.get(..20) else {
+            break;
+        };
+        vectors::print_named(rt, b" ", header)?;
+        let len = usize::from(u16::from_be_bytes([head[1], head[2]]));
+        if after.len() < len {
+            break;
         }
-        vectors::print_named(rt, b" ", &out[at + 3..at + 23])?;
-        let len = joined(out[at + 1], out[at + 2]);
-        if n - at - 3 < len {
-            return Ok(());
-        }
-        at = at + 3 + len;
-        k += 1;
+        rest = &after[len..];
     }
     Ok(())
 }
 
-fn finish(
+// Makes a call that is lent so much output, and prints what is seen of it.
+fn made<F: FnOnce(&mut [u8]) -> Result<Answer, Refusal>>(
     rt: &impl Print,
-    label: &[u8],
-    before: Client,
-    a: Answer,
-    out: &[u8],
-) -> io::Result<Client> {
-    print_answer(rt, label, a)?;
-    let event = a.event;
-    print_event(rt, event)?;
-    print_kept(rt, out, a.len)?;
-    let client = a.client;
-    print_same(rt, a.refusal, before, client)?;
-    print_sum(rt, out, a.len)?;
-    print(rt, b"\n")?;
-    print_heads(rt, out, a.packets)?;
-    Ok(client)
-}
-
-// The output that is lent.
-fn fresh_output() -> [u8; 4096]
-    ensures { 4096 ≡ length result }
+    label: &str,
+    client: Client,
+    room: usize,
+    call: F,
+) -> io::Result<Client>
+    requires callable { F.IsAlwaysCallable call }
+    requires room_in { room ≤ 4096 }
 {
-    [0xAA; 4096]
+    let mut out = [0xAA; 4096];
+    let outcome = call(&mut out[..room]);
+    let (number, answer) = numbered(client, outcome);
+    print_answer(rt, label, number, &answer)?;
+    let told = Told(answer.event);
+    let kept = if out.iter().skip(answer.len).all(|byte| *byte == 0xAA) {
+        "kept"
+    } else {
+        "spoilt"
+    };
+    print!(rt; "{told} {kept}")?;
+    if number != 0 {
+        print!(rt; " same")?;
+    }
+    match out.get(..answer.len) {
+        None | Some([]) => {}
+        Some(written) => {
+            let sum = crc32::digest(written);
+            print!(rt; " {sum:08x}")?;
+        }
+    }
+    println!(rt; "")?;
+    print_heads(rt, &out, answer.packets)?;
+    Ok(answer.client)
 }
 
 pub fn start(
     rt: &impl Print,
-    label: &[u8],
+    label: &str,
     client: Client,
     time: u64,
     ids: &[u8],
@@ -207,28 +141,18 @@ pub fn start(
 ) -> io::Result<Client>
     requires { room ≤ 4096 }
 {
-    let mut out = fresh_output();
-    start_in(rt, label, client, time, ids, &mut out, room)
-}
-
-fn start_in(
-    rt: &impl Print,
-    label: &[u8],
-    client: Client,
-    time: u64,
-    ids: &[u8],
-    out: &mut [u8],
-    room: usize,
-) -> io::Result<Client>
-    requires { room ≤ length out.old }
-{
-    let a = turn_poll::start(client, time, ids, &mut out[0..room]);
-    finish(rt, label, client, a, out)
+    made(
+        rt,
+        label,
+        client,
+        room,
+        |out| turn_poll::start(client, time, ids, out),
+    )
 }
 
 pub fn poll(
     rt: &impl Print,
-    label: &[u8],
+    label: &str,
     client: Client,
     time: u64,
     ids: &[u8],
@@ -236,76 +160,56 @@ pub fn poll(
 ) -> io::Result<Client>
     requires { room ≤ 4096 }
 {
-    let mut out = fresh_output();
-    poll_in(rt, label, client, time, ids, &mut out, room)
-}
-
-fn poll_in(
-    rt: &impl Print,
-    label: &[u8],
-    client: Client,
-    time: u64,
-    ids: &[u8],
-    out: &mut [u8],
-    room: usize,
-) -> io::Result<Client>
-    requires { room ≤ length out.old }
-{
-    let a = turn_poll::poll(client, time, ids, &mut out[0..room]);
-    finish(rt, label, client, a, out)
+    made(
+        rt,
+        label,
+        client,
+        room,
+        |out| turn_poll::poll(client, time, ids, out),
+    )
 }
 
 pub fn close(
     rt: &impl Print,
-    label: &[u8],
+    label: &str,
     client: Client,
     ids: &[u8],
     room: usize,
 ) -> io::Result<Client>
     requires { room ≤ 4096 }
 {
-    let mut out = fresh_output();
-    close_in(rt, label, client, ids, &mut out, room)
+    made(
+        rt,
+        label,
+        client,
+        room,
+        |out| turn_close::close(client, ids, out),
+    )
 }
 
-fn close_in(
-    rt: &impl Print,
-    label: &[u8],
-    client: Client,
-    ids: &[u8],
-    out: &mut [u8],
-    room: usize,
-) -> io::Result<Client>
-    requires { room ≤ length out.old }
-{
-    let a = turn_close::close(client, ids, &mut out[0..room]);
-    finish(rt, label, client, a, out)
-}
-
-pub fn lost(rt: &impl Print, label: &[u8], client: Client) -> io::Result<Client> {
-    let a = turn_open::lost(client);
-    print_answer(rt, label, a)?;
-    let event = a.event;
-    print_event(rt, event)?;
-    print(rt, b"\n")?;
-    Ok(a.client)
+pub fn lost(rt: &impl Print, label: &str, client: Client) -> io::Result<Client> {
+    let answer = turn_open::lost(client);
+    print_answer(rt, label, 0, &answer)?;
+    let told = Told(answer.event);
+    println!(rt; "{told}")?;
+    Ok(answer.client)
 }
 
 // LABEL REFUSAL, how long the held username and password are, and the deadline.
 pub fn open(
     rt: &impl Print,
-    label: &[u8],
+    label: &str,
     username: &[u8],
     password: &[u8],
     reliable: bool,
 ) -> io::Result<Client> {
-    let o = turn_open::open(username, password, reliable);
-    let client = o.client;
-    print(rt, label)?;
-    number(rt, o.refusal as u64)?;
-    size(rt, client.credentials.username.len)?;
-    size(rt, client.password.len)?;
-    print_deadline(rt, client)?;
-    print(rt, b"\n")?;
+    let (number, client) = match turn_open::open(username, password, reliable) {
+        Ok(client) => (0, client),
+        Err(refusal) => (u32::from(refusal), turn_open::unopened()),
+    };
+    let first = client.credentials.username.len;
+    let second = client.password.len;
+    let due = deadline_of(client);
+    println!(rt; "{label} {number} {first} {second} {due}")?;
     Ok(client)
 }

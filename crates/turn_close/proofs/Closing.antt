@@ -5,20 +5,21 @@ use mathlib.Core.List.{List, [], ◌∷◌, ◌++◌}
 use Prim.Native.Nat.{ℕ, ◌+◌, ◌-◌, ◌≤◌}
 use native.Mathlib.Omega.{arith}
 use lib.ListN.{length, take, drop}
-use lib.Dec.{leb}
+use lib.Dec.{eqb, leb}
 use borrow.Author.Tests.{le-ltb, le-leb}
-use Rattle.stun_frame.specs.declared.Written.{Written}
-use Rattle.stun_frame.specs.declared.Written.TheVariants.{Bytes, NoRoom}
-use Rattle.stun_frame.specs.Source.{room_after}
+use Rattle.std.specs.Prelude.{Ok, Err}
+use Rattle.stun_frame.specs.declared.Unwritten.TheVariants.{NoRoom}
+use Rattle.stun_frame.specs.Source.{room_after, Written}
 use Rattle.turn_state.specs.declared.Asked.{Asked}
 use Rattle.turn_state.specs.declared.Client.{Client}
+use Rattle.turn_state.specs.declared.Refusal.{Refusal}
+use Rattle.turn_state.specs.declared.Refusal.TheVariants.{Late, LongText, IllFormed, LongBody, Full, FewIds, TakenId, SmallOutput}
 use Rattle.turn_state.specs.declared.Requests.{Requests}
 use Rattle.turn_state.specs.declared.Kind.TheVariants.{Refresh}
-use Rattle.turn_state.specs.declared.Event.TheVariants.{Nothing}
 use Rattle.turn_state.specs.State.{Turn, Run, begin, ids_in, id_at, set_txns, set_closing}
 use Rattle.turn_state.specs.Source.{close, encode, refresh_message}
-use Rattle.turn_state.specs.Number.{Given, given_of, number, settled, above, full, framed, pending}
-use Rattle.turn_state.specs.View.{view, asked_of, refused_answer, Meets, no_request, TidyRequest}
+use Rattle.turn_state.specs.Number.{Given, given_of, number, number_of, settled, above, full, framed, pending}
+use Rattle.turn_state.specs.View.{view, asked_of, quiet, sending, done, Meets, no_request, TidyRequest}
 use Rattle.turn_state.proofs.Answering.{accepted_meets}
 use Rattle.turn_open.specs.Fresh.{blank_requests}
 use Rattle.turn_open.proofs.Blank.{blank_tidy}
@@ -41,9 +42,9 @@ module _ (client : Client) (lent out : List ℕ) (none_left : run_of client lent
   quiet_number =
       nothing_used (given_of 0 lent (length out)) (view client) (run_of client lent) (omega arith) (omega arith) (ap (λ (r : Run). r.report) none_left) (ap (λ (r : Run). r.out) none_left)
 
-  pub quiet : Meets client (settled (number (given_of 0 lent (length out)) (view client) (run_of client lent)) (view client) (run_of client lent)) out (refused_answer client 0) out
-  quiet =
-      accepted_meets client (given_of 0 lent (length out)) (run_of client lent) out (refused_answer client 0) out quiet_number refl (rw none_left) (λ t. t) (rw none_left) (rw none_left) (rw none_left) (rw none_left)
+  pub idle : Meets client (settled (number (given_of 0 lent (length out)) (view client) (run_of client lent)) (view client) (run_of client lent)) out (done (quiet client)) out
+  idle =
+      accepted_meets client (given_of 0 lent (length out)) (run_of client lent) out (done (quiet client)) out quiet_number refl (rw none_left) (λ t. t) (rw none_left) (rw none_left) (rw none_left) (rw none_left)
       (rw none_left)
 
 pub no_relay : (client : Client) (lent : List ℕ) → client.has_relay ≡ false → run_of client lent ≡ begin (view client) lent
@@ -53,6 +54,17 @@ no_relay client lent e = rw e
 pub closing_yet : (client : Client) (lent : List ℕ) → client.has_relay ≡ true → client.closing ≡ true → run_of client lent ≡ begin (view client) lent
 unfolding close
 closing_yet client lent e f = rw (e, f)
+
+-- a refusal's number is not 0
+pub refuses : (refusal : Refusal) → eqb (number_of refusal) 0 ≡ false
+refuses Late = refl
+refuses LongText = refl
+refuses IllFormed = refl
+refuses LongBody = refl
+refuses Full = refl
+refuses FewIds = refl
+refuses TakenId = refl
+refuses SmallOutput = refl
 
 -- what it does otherwise
 module _ (client : Client) (lent out : List ℕ) (relayed : client.has_relay ≡ true) (open_yet : client.closing ≡ false) (rooms : Rooms client.credentials) (a : Asked) (ea : a ≡ asked_of (Refresh 0)) where
@@ -115,16 +127,16 @@ module _ (client : Client) (lent out : List ℕ) (relayed : client.has_relay ≡
       }
 
   pub closed : (n : ℕ) (id : List ℕ) (w : Written) (o : List ℕ) (t : Requests) → 1 ≤ ids_in lent → number g c (run_of client lent) ≡ 0 → n ≡ packet_size client.credentials a
-      → 3 + n ≤ length out → id ≡ lent_id lent 0 → w ≡ cond (leb (0 + 3 + packet_size client.credentials a) (length out)) (Bytes (0 + 3 + packet_size client.credentials a)) NoRoom
+      → 3 + n ≤ length out → id ≡ lent_id lent 0 → w ≡ cond (leb (0 + 3 + packet_size client.credentials a) (length out)) (Ok (0 + 3 + packet_size client.credentials a)) (Err NoRoom)
       → o ≡ room_after w (take 0 out ++ framed (packet_of client.credentials a id id ∷ [])) out → t ≡ blank_requests
       → Meets client (settled (number g c (run_of client lent)) c (run_of client lent)) out
-      (record { client = after t; refusal = 0; event = Nothing; events = 0; packets = 1; len = 3 + n }) o
+      (done (sending (after t) 1 (3 + n))) o
   closed n id w o t h k e room eid ew eo et =
       let same_id : id ≡ id_at lent 0 = eid ∙ lent_is lent 0 (omega arith) in
       let size : length (framed (packet ∷ [])) ≡ 3 + n = size_is h ∙ rw e in
-      let w-is : w ≡ Bytes (3 + n) = ew ∙ rw (← e, le-leb (0 + 3 + n) (length out) (omega arith)) in
+      let w-is : w ≡ Ok (3 + n) = ew ∙ rw (← e, le-leb (0 + 3 + n) (length out) (omega arith)) in
       accepted_meets client g (run_of client lent) out
-      (record { client = after t; refusal = 0; event = Nothing; events = 0; packets = 1; len = 3 + n }) o k refl
+      (done (sending (after t) 1 (3 + n))) o k refl
       (rw (run_is, et))
       (λ n₁. record { password = n₁.password; credentials = n₁.credentials; requests = rw et (blank_tidy TidyRequest no_request 64); permissions = n₁.permissions; channels = n₁.channels; relay = n₁.relay; no_refresh = n₁.no_refresh })
       (rw run_is) (rw run_is) (rw run_is) (rw run_is (sym size))

@@ -70,9 +70,6 @@ indication_short peer id body i =
 pub frame_length : (n : ℕ) (body : List ℕ) → length (encode_channel_data n body) ≡ frame_size (length body)
 frame_length n body = length_channel_data n body
 
-pub frame_bound : (n : ℕ) → frame_size n ≤ 4 + n + 3
-frame_bound n = omega arith
-
 frame_padded : (n : ℕ) → padding (frame_size n) ≡ 0
 frame_padded n = omega arith
 

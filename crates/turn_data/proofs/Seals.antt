@@ -1,5 +1,7 @@
 -- What the writers leave, over lists: the plain header around two attributes, ChannelData in a room that is long enough, and the
 -- answers of each.
+use Rattle.std.specs.Prelude.{Ok, Err}
+use Rattle.stun_frame.specs.declared.Unwritten.TheVariants.{TooLong, NoRoom}
 use mathlib.Core.Path.{◌≡◌, sym, ap, ap₂, ◌∙◌}
 use mathlib.Core.Bool.{false, cond}
 use mathlib.Core.List.{List, ◌++◌, append_assoc}
@@ -10,9 +12,7 @@ use lib.Seq.{take_at, drop_at, length-take-le}
 use lib.Dec.{ltb, leb}
 use borrow.Author.Tests.{le-ltb, lt-ltb}
 use borrow.Rule.Slice.PartMut.{mid_of}
-use Rattle.stun_frame.specs.declared.Written.{Written}
-use Rattle.stun_frame.specs.declared.Written.TheVariants.{Bytes, TooLong, NoRoom}
-use Rattle.stun_frame.specs.Source.{room_after, encode_channel_data, written}
+use Rattle.stun_frame.specs.Source.{room_after, encode_channel_data, written, Written}
 use Rattle.stun_frame.proofs.Writing.{length_channel_data}
 use Rattle.stun_address.specs.declared.Ip.{Ip}
 use Rattle.stun_address.specs.declared.Address.{Address}
@@ -30,7 +30,7 @@ pub sealed_plain : (out o after body id : List ℕ) (n end typ : ℕ) (r : Writt
     → Put out 20 body n end o
     → (r ≡ fitted (sealed_size (end - 20) false false) (length o))
     × (after ≡ room_after r (encoded typ id (take (end - 20) (drop 20 o)) unsigned false) o)
-    → after ≡ encoded typ id body unsigned false ++ drop (20 + n) out
+    → (r ≡ Ok (20 + n)) × (after ≡ encoded typ id body unsigned false ++ drop (20 + n) out)
 sealed_plain out o after body id n end typ r lb w g p e =
     let lt : length (take 20 out) ≡ 20 = length-take-le 20 out (omega arith) in
     let lf : length (take 20 out ++ body) ≡ 20 + n = length-append (take 20 out) body ∙ ap₂ (λ (x y : ℕ). x + y) lt lb in
@@ -41,10 +41,12 @@ sealed_plain out o after body id n end typ r lb w g p e =
     ap₂ (λ (k : ℕ) (l : List ℕ). take k (drop 20 l)) en (p.1 ∙ append_assoc (take 20 out) body (drop (20 + n) out))
     ∙ ap (take n) (drop_at (take 20 out) (body ++ drop (20 + n) out) 20 lt) ∙ take_at body _ n lb in
     let z : sealed_size (end - 20) false false ≡ 20 + n = omega arith in
-    let due : r ≡ Bytes (20 + n) = e.0 ∙ ap₂ (λ (x y : ℕ). fitted x y) z lo ∙ is_bytes (20 + n) (length out) g w in
-    let d : drop (20 + n) o ≡ drop (20 + n) out = ap (drop (20 + n)) p.1 ∙ drop_at (take 20 out ++ body) (drop (20 + n) out) (20 + n) lf in
-    e.1 ∙ ap₂ (λ (x : Written) (l : List ℕ). room_after x (encoded typ id l unsigned false) o) due b
-    ∙ ap (λ (l : List ℕ). encoded typ id body unsigned false ++ l) d
+    let due : r ≡ Ok (20 + n) = e.0 ∙ ap₂ (λ (x y : ℕ). fitted x y) z lo ∙ is_bytes (20 + n) (length out) g w in
+    let d : drop (20 + n) o ≡ drop (20 + n) out = ap (drop (20 + n)) p.1 ∙ drop_at (take 20 out ++ body) (drop (20 + n) out) (20 + n) lf in (
+      due,
+      e.1 ∙ ap₂ (λ (x : Written) (l : List ℕ). room_after x (encoded typ id l unsigned false) o) due b
+          ∙ ap (λ (l : List ℕ). encoded typ id body unsigned false ++ l) d,
+    )
 
 -- the peer, the data behind it, and the header before both
 pub indication_put : (peer : Address) (id body out o₁ o₂ after : List ℕ) (a b : ℕ) (r : Written) → length id ≡ 12 → length body ≤ 2048
@@ -53,16 +55,16 @@ pub indication_put : (peer : Address) (id body out o₁ o₂ after : List ℕ) (
     → Put o₁ a (push_attr 0x0013 body) (attr_size (length body)) b o₂
     → (r ≡ fitted (sealed_size (b - 20) false false) (length o₂))
     × (after ≡ room_after r (encoded 0x0016 id (take (b - 20) (drop 20 o₂)) unsigned false) o₂)
-    → after ≡ indication_of peer id body ++ drop (indication_size peer (length body)) out
+    → (r ≡ Ok (indication_size peer (length body))) × (after ≡ indication_of peer id body ++ drop (indication_size peer (length body)) out)
 indication_put peer id body out o₁ o₂ after a b r li h w p q s =
     let n : ℕ = address_size peer.ip + attr_size (length body) in
     let z : 20 + n ≡ indication_size peer (length body) = omega arith in
     let u : Put out 20 (indication_body peer id body) n b o₂ =
     two out o₁ o₂ (push_attr 0x0012 (encode_xor_addr peer id)) (push_attr 0x0013 body) 20 (address_size peer.ip) (attr_size (length body)) a b
     (length-peer peer id li) (omega arith) p q in
-    sealed_plain out o₂ after (indication_body peer id body) id n b 0x0016 r (length-indication_body peer id body li) (omega arith)
-    (omega (arith, indication_bound peer (length body))) u s
-    ∙ ap₂ (λ (l : List ℕ) (k : ℕ). l ++ drop k out) (sym (indication_is peer id body)) z
+    let f = sealed_plain out o₂ after (indication_body peer id body) id n b 0x0016 r (length-indication_body peer id body li) (omega arith)
+    (omega (arith, indication_bound peer (length body))) u s in
+    (f.0 ∙ ap (λ (k : ℕ). Ok k) z, f.1 ∙ ap₂ (λ (l : List ℕ) (k : ℕ). l ++ drop k out) (sym (indication_is peer id body)) z)
 
 -- the room that is lent on, from `start` to the end
 pub rest_room : (out : List ℕ) (start size : ℕ) → start + size ≤ length out → size ≤ length (mid_of start (length out - start) out)
@@ -71,24 +73,24 @@ rest_room out start size h = rw length-take (omega (arith, length-drop start out
 -- ChannelData that fits
 pub frame_put : (number : ℕ) (body out after : List ℕ) (r : Written) → length body ≤ 65535 → frame_size (length body) ≤ length out
     → (r ≡ written number body out) × (after ≡ room_after r (encode_channel_data number body) out)
-    → after ≡ encode_channel_data number body ++ drop (frame_size (length body)) out
+    → (r ≡ Ok (frame_size (length body))) × (after ≡ encode_channel_data number body ++ drop (frame_size (length body)) out)
 unfolding written
 frame_put number body out after r h w e =
     let v : List ℕ = encode_channel_data number body in
     let l : length v ≡ frame_size (length body) = length_channel_data number body in
-    let due : r ≡ Bytes (length v) = e.0 ∙ rw (le-ltb 65535 (length body) h, le-ltb (length out) (length v) (omega arith)) in
-    e.1 ∙ ap (λ (x : Written). room_after x v out) due ∙ ap (λ (k : ℕ). v ++ drop k out) l
+    let due : r ≡ Ok (length v) = e.0 ∙ rw (le-ltb 65535 (length body) h, le-ltb (length out) (length v) (omega arith)) in
+    (due ∙ ap (λ (k : ℕ). Ok k) l, e.1 ∙ ap (λ (x : Written). room_after x v out) due ∙ ap (λ (k : ℕ). v ++ drop k out) l)
 
 -- the answers, by the data's length n and the packet's size k
-pub answer_long : (n : ℕ) (w : Written) → 2048 < n → TooLong ≡ cond (ltb 2048 n) TooLong w
+pub answer_long : (n : ℕ) (w : Written) → 2048 < n → (Err TooLong) ≡ cond (ltb 2048 n) (Err TooLong) w
 answer_long n w h = rw (lt-ltb 2048 n h)
 
 pub answer_narrow : (n at k room : ℕ) → n ≤ 2048 → room < at + 3 + k
-    → NoRoom ≡ cond (ltb 2048 n) TooLong (cond (leb (at + 3 + k) room) (Bytes (at + 3 + k)) NoRoom)
+    → (Err NoRoom) ≡ cond (ltb 2048 n) (Err TooLong) (cond (leb (at + 3 + k) room) (Ok (at + 3 + k)) (Err NoRoom))
 answer_narrow n at k room h g = rw (le-ltb 2048 n h) (refused (at + 3 + k) room g)
 
 pub answer_bytes : (n at size k room : ℕ) → n ≤ 2048 → size ≡ k → at + 3 + k ≤ room
-    → Bytes (at + 3 + size) ≡ cond (ltb 2048 n) TooLong (cond (leb (at + 3 + k) room) (Bytes (at + 3 + k)) NoRoom)
+    → Ok (at + 3 + size) ≡ cond (ltb 2048 n) (Err TooLong) (cond (leb (at + 3 + k) room) (Ok (at + 3 + k)) (Err NoRoom))
 answer_bytes n at size k room h e g = rw (le-ltb 2048 n h) (answered at size k room e g)
 
 -- the size by the limit on n, and by the family

@@ -1,2 +1,2 @@
--- The laws of the scan.
+-- The least of a list.
 pub mod Scan

@@ -1,2 +1,2 @@
--- A deadline as the code has it.
+-- What a row has to wait for.
 pub mod Times

@@ -1,8 +1,11 @@
 -- A loop over rows, one packet at a time. Invariant (`Running`): the packets of the first i rows stand behind `at`, and what is after them
 -- is as it was; there is room for all.
+use Rattle.std.specs.Prelude.{Ok, Err}
+use Rattle.stun_frame.specs.declared.Unwritten.TheVariants.{NoRoom}
+use Rattle.std.specs.List.{sum_by, fold}
+use Rattle.std.proofs.lemmas.List.{take_min}
 use mathlib.Core.Path.{◌≡◌, refl, sym, ap, ap₂, ◌∙◌}
 use mathlib.Core.Bool.{cond}
-use mathlib.Core.Logic.{◌⊎◌, inl, inr}
 use mathlib.Core.List.{List, [], ◌∷◌, ◌++◌, map}
 use Prim.Native.Nat.{ℕ, zero, suc, ◌+◌, ◌*◌, ◌≤◌, ◌<◌, min}
 use native.Mathlib.Nat.{not-suc-le-zero, le_of_suc-le-suc, add-zero}
@@ -10,24 +13,17 @@ use native.Mathlib.Numerals.{add-one}
 use native.Mathlib.Omega.{arith}
 use borrow.Author.Tests.{le-leb}
 use lib.ListN.{length, take, drop, get_or, length-append, length-take, length-drop}
-use lib.Seq.{take_all, length-take-le}
+use lib.Seq.{length-take-le}
 use lib.Dec.{leb}
-use Rattle.stun_frame.specs.declared.Written.{Written}
-use Rattle.stun_frame.specs.declared.Written.TheVariants.{Bytes, TooLong, NoRoom}
-use Rattle.stun_frame.specs.Source.{room_after}
-use Rattle.stun_frame.proofs.Reading.{compared}
+use Rattle.stun_frame.specs.Source.{room_after, Written}
 use Rattle.turn_state.specs.Number.{framed}
 use Rattle.turn_packet.proofs.Frames.{framed_append}
-use Rattle.turn_packet.proofs.Places.{Put, put_eq, put_none, then}
+use Rattle.turn_packet.proofs.Places.{Put, put_eq, put_none, then, same_place}
 use Rattle.turn_frames.specs.Frames.{numbered, sum_of}
 
 -- the first `len` of `room` rows
-pub take_min : {R : Type 0} (rows : List R) (len room n : ℕ) → length rows ≡ room → n ≡ min len room → take n rows ≡ take len rows
-take_min rows len room n full e = go (compared room len)
-  where
-    go : (room < len) ⊎ (len ≤ room) → take n rows ≡ take len rows
-    go (inl h) = take_all n rows (omega arith) ∙ sym (take_all len rows (omega arith))
-    go (inr h) = let m : n ≡ len = omega arith in rw m
+pub in_use : {R : Type 0} (rows : List R) (len room n : ℕ) → length rows ≡ room → n ≡ min len room → take n rows ≡ take len rows
+in_use rows len room n full e = rw (e, ← full) (take_min len rows)
 
 pub numbered_map : {R : Type 0} (g : R → List ℕ) (k : ℕ) (rows : List R) → numbered (λ k r. g r) k rows ≡ map g rows
 numbered_map g k [] = refl
@@ -51,13 +47,21 @@ module _ {R : Type 0} (size : R → ℕ) where
   sum_bound b [] = omega arith
   sum_bound b (x ∷ xs) = let e = sum_bound b xs in omega (arith, b x)
 
-  -- the sum so far, and at the end
-  pub sum_more : (rows : List R) (i : ℕ) (d : R) (s n : ℕ) → i < length rows → s ≡ sum_of size (take i rows) → n ≡ size (get_or rows i d)
-      → s + (3 + n) ≡ sum_of size (take (i + 1) rows)
-  sum_more rows i d s n h e f = rw add-one (ap₂ (λ (x y : ℕ). x + (3 + y)) e f ∙ sym (sum_next rows i d h))
+  -- the sum of all
+  folded : (a : ℕ) (rows : List R) → fold (λ b x. b + (3 + size x)) a rows ≡ a + sum_of size rows
+  folded a [] = omega arith
+  folded a (x ∷ xs) = folded (a + (3 + size x)) xs ∙ omega arith
 
-  pub sum_so_far : ((r : R) → size r ≤ 3000) → (rows : List R) (i s : ℕ) → s ≡ sum_of size (take i rows) → s ≤ 3003 * i
-  sum_so_far b rows i s e = omega (arith, e, sum_bound b (take i rows), length-take i rows)
+  summed_is : (rows : List R) → sum_by (λ r. 3 + size r) rows ≡ sum_of size rows
+  summed_is rows = folded 0 rows ∙ omega arith
+
+  module _ (b : (r : R) → size r ≤ 3000) (rows : List R) (len room n : ℕ) where
+    pub summed_bound : length rows ≡ room → n ≡ min len room → sum_by (λ r. 3 + size r) (take n rows) ≤ 3003 * room
+    summed_bound full e = omega (arith, summed_is (take n rows), sum_bound b (take n rows), length-take n rows)
+
+    pub summed : (s : ℕ) → length rows ≡ room → n ≡ min len room → room ≤ 65 → s ≡ sum_by (λ r. 3 + size r) (take n rows)
+        → (s ≡ sum_of size (take len rows)) × (s ≤ 200000)
+    summed s full e small is = (is ∙ summed_is (take n rows) ∙ ap (sum_of size) (in_use rows len room n full e), omega (arith, is, summed_bound full e))
 
 -- what is written is as long as what stood there
 length-after : (out b o : List ℕ) (at n r : ℕ) → length b ≡ n → at + n ≤ length out → Put out at b n r o → length o ≡ length out
@@ -94,7 +98,7 @@ pub running_start : {R : Type 0} (f : ℕ → R → List ℕ) (size : R → ℕ)
     → n ≡ min len room → total ≡ sum_of size (take len rows) → at + total ≤ length out
     → ((k : ℕ) → length (front f rows k) ≡ sum_of size (take k rows)) → Running f size rows len n total out at 0 at out
 running_start f size rows len room n total out at full is e fits sized =
-    let a : take n rows ≡ take len rows = take_min rows len room n full is in
+    let a : take n rows ≡ take len rows = in_use rows len room n full is in
     record {
       rows_in = omega arith;
       all = a;
@@ -144,31 +148,27 @@ module _ {R : Type 0} {f : ℕ → R → List ℕ} {size : R → ℕ} {rows : Li
 
   -- the answer once all are written
   pub running_end : (ps : List (List ℕ)) (k : ℕ) → n ≤ i → numbered f 0 (take len rows) ≡ ps → total ≡ k
-      → (Bytes (at + total) ≡ cond (leb (at + k) (length out)) (Bytes (at + k)) NoRoom) × (o ≡ room_after (Bytes (at + total)) (take at out ++ framed ps) out)
+      → (Ok (at + total) ≡ cond (leb (at + k) (length out)) (Ok (at + k)) (Err NoRoom)) × (o ≡ room_after (Ok (at + total)) (take at out ++ framed ps) out)
   running_end ps k past e t =
       let j : i ≡ n = omega (arith, g.reached) in
       let w : at + k ≤ length out = omega (arith, g.fits) in
       let m : front f rows i ≡ framed ps = ap (front f rows) j ∙ ap (λ (l : List R). framed (numbered f 0 l)) g.all ∙ ap framed e in
       let s : sum_of size (take i rows) ≡ total = ap (λ (k : ℕ). sum_of size (take k rows)) j ∙ sym g.total_is in (
-        rw (le-leb (at + k) (length out) w) (ap (λ (x : ℕ). Bytes (at + x)) t),
+        rw (le-leb (at + k) (length out) w) (ap (λ (x : ℕ). Ok (at + x)) t),
         (put_eq out o at place m s g.put).1,
       )
 
--- one packet that fits
-module _ (out : List ℕ) (at n : ℕ) (r : Written) (fits : at + (3 + n) ≤ length out)
-    (is : r ≡ cond (leb (at + 3 + n) (length out)) (Bytes (at + 3 + n)) NoRoom) where
-  bytes : r ≡ Bytes (at + (3 + n))
-  bytes =
-      let e : at + 3 + n ≡ at + (3 + n) = omega arith in
-      is ∙ ap (λ (k : ℕ). cond (leb k (length out)) (Bytes k) NoRoom) e ∙ rw (le-leb (at + (3 + n)) (length out) fits)
+  -- the next one is written
+  pub running_written : (d : R) → i < n → {r : Written} → let k = place + 3 + size (get_or rows i d) in r ≡ cond (leb k (length o)) (Ok k) (Err NoRoom) → r ≡ Ok k
+  running_written d below {r} is =
+      let h = running_room d below in
+      is ∙ rw (le-leb (place + 3 + size (get_or rows i d)) (length o) (omega arith))
 
-  pub packet_put : (o p : List ℕ) (end : ℕ) → r ≡ Bytes end → o ≡ room_after r (take at out ++ framed (p ∷ [])) out → Put out at (framed (p ∷ [])) (3 + n) end o
-  packet_put o p end e f =
-      let b = bytes in
-      (cc, f ∙ ap (λ (w : Written). room_after w (take at out ++ framed (p ∷ [])) out) b)
-
-  pub not_long : r ≡ TooLong → ⊥
-  not_long e = let b = bytes in let z : ◌≡◌ {A = ℕ} 0 1 = cc in omega arith
-
-  pub has_room : r ≡ NoRoom → ⊥
-  has_room e = let b = bytes in let z : ◌≡◌ {A = ℕ} 0 1 = cc in omega arith
+  pub running_put : (d : R) → i < n → {r : Written} {o₂ : List ℕ} (p : List ℕ) {next : ℕ}
+      → (r ≡ cond (leb (place + 3 + size (get_or rows i d)) (length o)) (Ok (place + 3 + size (get_or rows i d))) (Err NoRoom))
+      × (o₂ ≡ room_after r (take place o ++ framed (p ∷ [])) o)
+      → r ≡ Ok next → Put o place (framed (p ∷ [])) (3 + size (get_or rows i d)) next o₂
+  running_put d below {r} {o₂} p {next} w e =
+      let z = running_written d below w.0 in
+      let k : place + 3 + size (get_or rows i d) ≡ place + (3 + size (get_or rows i d)) = omega arith in
+      (same_place e z ∙ k, w.1 ∙ ap (λ (x : Written). room_after x (take place o ++ framed (p ∷ [])) o) z ∙ ap (λ (m : ℕ). take place o ++ framed (p ∷ []) ++ drop m o) k)

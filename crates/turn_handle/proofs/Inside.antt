@@ -1,8 +1,8 @@
 -- The data of an event lies in the datagram that was handled, so that the part it names is as long as it says.
+use Rattle.std.specs.Prelude.{Option, None, Some}
 use mathlib.Core.Path.{◌≡◌, refl, subst}
 use mathlib.Core.Bool.{Bool, true, false, cond, ◌&&◌, ◌||◌, not}
 use mathlib.Core.List.{List, [], ◌∷◌, ◌++◌, map}
-use mathlib.Core.Option.{Option, none, some}
 use Prim.Native.Nat.{ℕ, ◌+◌, ◌≤◌}
 use native.Mathlib.Omega.{arith}
 use borrow.Author.Tests.{leb-true}
@@ -10,14 +10,10 @@ use lib.Dec.{ltb, leb, eqb}
 use lib.ListN.{length, length-take, length-drop}
 use Rattle.stun_frame.specs.declared.classes.Class.{Class}
 use Rattle.stun_frame.specs.declared.classes.Class.TheVariants.{Request, Indication, Success, Error}
-use Rattle.stun_frame.specs.declared.Channel.{Channel}
-use Rattle.stun_frame.specs.declared.Channel.TheVariants.{Data as ChannelOf, Nothing as NoChannel}
+use Rattle.stun_frame.specs.declared.ChannelData.{ChannelData}
 use Rattle.stun_frame.specs.Source.{class, field_at, is_channel_data, decode_channel_data}
 use Rattle.stun_address.specs.declared.Address.{Address}
-use Rattle.stun_address.specs.declared.Peer.{Peer}
-use Rattle.stun_address.specs.declared.Peer.TheVariants.{At, Nothing as NoPeer}
-use Rattle.stun_walk.specs.declared.Found.{Found}
-use Rattle.stun_walk.specs.declared.Found.TheVariants.{At as Lies, Nothing as Missing}
+use Rattle.stun_walk.specs.declared.Value.{Value}
 use Rattle.stun_walk.specs.Source.{readable, get_of, error_code_of, xor_addr_of}
 use Rattle.stun_walk.proofs.First.{get_inside}
 use Rattle.turn_state.specs.declared.Kind.{Kind}
@@ -25,7 +21,7 @@ use Rattle.turn_state.specs.declared.Kind.TheVariants.{Allocate, Refresh, Permis
 use Rattle.turn_state.specs.declared.Reason.{Reason}
 use Rattle.turn_state.specs.declared.Reason.TheVariants.{Code as ErrorCode}
 use Rattle.turn_state.specs.declared.Event.{Event}
-use Rattle.turn_state.specs.declared.Event.TheVariants.{Nothing, Allocated, Failed, Data}
+use Rattle.turn_state.specs.declared.Event.TheVariants.{Allocated, Failed, Data}
 use Rattle.turn_state.specs.Maps.{get, contains, filter, each, if_let}
 use Rattle.turn_state.specs.State.{Message, Txn, Perm, Turn, Run, begin, drew}
 use Rattle.turn_state.specs.Number.{Outcome, number, settled}
@@ -37,23 +33,22 @@ use Rattle.turn_handle.specs.Handling.{part_of}
 -- what an event names lies in the bytes
 abbrev pub Inside : List ℕ → Event → Type 0
 Inside buf (Data peer start len) = start + len ≤ length buf
-Inside buf Nothing = Unit {0}
 Inside buf (Allocated relay mapped) = Unit {0}
 Inside buf (Failed why) = Unit {0}
 
 -- what ChannelData's numbers name
-by_length : (b d : Bool) (buf : List ℕ) (num start len n m : ℕ) → leb (4 + m) (length buf) ≡ d → cond b (cond d (ChannelOf n 4 m) NoChannel) NoChannel ≡ ChannelOf num start len → start + len ≤ length buf
-by_length true true buf num start len n m h e =
-    let a : 4 ≡ start = cc in
-    let l : m ≡ len = cc in
+by_length : (b fits : Bool) (buf : List ℕ) (d : ChannelData) (n m : ℕ) → leb (4 + m) (length buf) ≡ fits
+    → cond b (cond fits (Some (record { number = n; start = 4; len = m })) None) None ≡ Some d → d.start + d.len ≤ length buf
+by_length true true buf d n m h e =
+    let is : record { number = n; start = 4; len = m } ≡ d = cc in
     let k = leb-true (4 + m) (length buf) h in
-    omega arith
-by_length true false buf num start len n m h e = let z : ◌≡◌ {A = ℕ} 0 1 = cc in let no : ⊥ = omega arith in absurd no
-by_length false d buf num start len n m h e = let z : ◌≡◌ {A = ℕ} 0 1 = cc in let no : ⊥ = omega arith in absurd no
+    rw (← is) k
+by_length true false buf d n m h e = cc
+by_length false fits buf d n m h e = cc
 
-channel_inside : (buf : List ℕ) (num start len : ℕ) → decode_channel_data buf ≡ ChannelOf num start len → start + len ≤ length buf
+channel_inside : (buf : List ℕ) (d : ChannelData) → decode_channel_data buf ≡ Some d → d.start + d.len ≤ length buf
 unfolding decode_channel_data
-channel_inside buf num start len e = by_length (is_channel_data buf) (leb (4 + field_at buf 2) (length buf)) buf num start len (field_at buf 0) (field_at buf 2) refl e
+channel_inside buf d e = by_length (is_channel_data buf) (leb (4 + field_at buf 2) (length buf)) buf d (field_at buf 0) (field_at buf 2) refl e
 
 module _ (buf : List ℕ) where
   -- every event so far
@@ -82,8 +77,8 @@ module _ (buf : List ℕ) where
   requested now kind msg s h = put_in _ s h
 
   if_there : {X : Type 0} (o : Option X) (f : X → Run) (s : Run) → ((x : X) → Lying (f x)) → Lying s → Lying (if_let o f s)
-  if_there none f s y n = n
-  if_there (some x) f s y n = y x
+  if_there None f s y n = n
+  if_there (Some x) f s y n = y x
 
   either : (b : Bool) (s t : Run) → Lying s → Lying t → Lying (cond b s t)
   either true s t y n = y
@@ -105,16 +100,16 @@ module _ (buf : List ℕ) where
   failed (ChannelBind peer num) why s h = h
   failed (Refresh lifetime) why s h = h
 
-  allocated : (now : ℕ) (p : Peer) (s : Run) → Lying s → Lying (Source.allocated now buf p s)
-  allocated now NoPeer s h = failed Allocate _ s h
-  allocated now (At relay) s h = one_more s.ev (Allocated relay (xor_addr_of buf 0x0020)) h tt
+  allocated : (now : ℕ) (p : Option Address) (s : Run) → Lying s → Lying (Source.allocated now buf p s)
+  allocated now None s h = failed Allocate _ s h
+  allocated now (Some relay) s h = one_more s.ev (Allocated relay (xor_addr_of buf 0x0020)) h tt
 
   succeeded : (now : ℕ) (kind : Kind) (s : Run) → Lying s → Lying (Source.on_success now kind buf s)
   unfolding Source.on_success
   succeeded now Allocate s h = allocated now (xor_addr_of buf 0x0016) s h
   succeeded now (Refresh lifetime) s h = either (ltb 0 lifetime) _ s h h
   succeeded now (Permission ip) s h =
-      let p : Perm = record { ip = ip; refresh = some (now + 240000) } in
+      let p : Perm = record { ip = ip; refresh = Some (now + 240000) } in
       let s₁ = Source.insert_perm p s in
       bound_each now (map (λ c. c.peer) (filter (Source.waiting ip) s₁.self.chans)) s₁ (permitted p s h)
   succeeded now (ChannelBind peer num) s h = if_there (get (Source.for_peer peer) s.self.chans) _ s (λ c. h) h
@@ -137,10 +132,10 @@ module _ (buf : List ℕ) where
   answered now Indication t s h = h
 
   -- a message, and a datagram
-  indicated : (p : Peer) (f : Found) (s : Run) → get_of buf 0x0013 ≡ f → Lying s → Lying (Source.indicated p f s)
-  indicated (At peer) (Lies start len) s e h = one_more s.ev (Data peer start len) h (get_inside buf 0x0013 start len e).1
-  indicated (At peer) Missing s e h = h
-  indicated NoPeer f s e h = h
+  indicated : (p : Option Address) (f : Option Value) (s : Run) → get_of buf 0x0013 ≡ f → Lying s → Lying (Source.indicated p f s)
+  indicated (Some peer) (Some v) s e h = one_more s.ev (Data peer v.start v.len) h (get_inside buf 0x0013 v e).1
+  indicated (Some peer) None s e h = h
+  indicated None f s e h = h
 
   message : (now : ℕ) (s : Run) → Lying s → Lying (Source.handle_message now buf s)
   message now s h =
@@ -148,18 +143,17 @@ module _ (buf : List ℕ) where
       (if_there (get (Source.under_id (Source.tid_of buf)) s.self.txns) _ s
       (λ t. either (Source.is_answer (class (field_at buf 0)) && Source.passed s.self.key buf (class (field_at buf 0))) _ s (answered now (class (field_at buf 0)) t _ h) h) h)
 
-  channel : (now : ℕ) (c : Channel) (s : Run) → decode_channel_data buf ≡ c → Lying s → Lying (Source.handle_channel now buf c s)
-  channel now (ChannelOf num start len) s e h =
-      if_there (get (Source.of_number num) s.self.chans) _ s (λ c. one_more s.ev (Data c.peer start len) h (channel_inside buf num start len e)) h
-  channel now NoChannel s e h = either (readable buf) (Source.handle_message now buf s) s (message now s h) h
+  channel : (now : ℕ) (c : Option ChannelData) (s : Run) → decode_channel_data buf ≡ c → Lying s → Lying (Source.handle_channel now buf c s)
+  channel now (Some d) s e h = if_there (get (Source.of_number d.number) s.self.chans) _ s (λ c. one_more s.ev (Data c.peer d.start d.len) h (channel_inside buf d e)) h
+  channel now None s e h = either (readable buf) (Source.handle_message now buf s) s (message now s h) h
 
   handled : (now : ℕ) (c : Turn) (lent : List ℕ) → Lying (Source.handle now buf (begin c lent))
   unfolding Source.handle
   handled now c lent = channel now (decode_channel_data buf) (begin c lent) refl no_rows
 
-first_inside : (buf : List ℕ) (l : List Event) (e : Event) → Each (Inside buf) l → told l ≡ e → Inside buf e
-first_inside buf [] e no_rows k = subst (Inside buf) k tt
-first_inside buf (x ∷ l) e (row h more) k = subst (Inside buf) k h
+first_inside : (buf : List ℕ) (l : List Event) (e : Event) → Each (Inside buf) l → told l ≡ Some e → Inside buf e
+first_inside buf [] e no_rows k = cc
+first_inside buf (x ∷ l) e (row h more) k = let is : x ≡ e = cc in subst (Inside buf) is h
 
 answer_events : (buf : List ℕ) (n : ℕ) (before : Turn) (s : Run) → Each (Inside buf) s.ev → Each (Inside buf) (settled n before s).events
 answer_events buf n before s h = by (eqb n 0)
@@ -169,12 +163,12 @@ answer_events buf n before s h = by (eqb n 0)
     by false = no_rows
 
 -- the event that a caller is told of, and its part
-module _ (c : Turn) (now : ℕ) (buf ids : List ℕ) (room : ℕ) (peer : Address) (start len : ℕ) (is : told (outcome c (Handle now buf ids room)).events ≡ Data peer start len) where
+module _ (c : Turn) (now : ℕ) (buf ids : List ℕ) (room : ℕ) (peer : Address) (start len : ℕ) (is : told (outcome c (Handle now buf ids room)).events ≡ Some (Data peer start len)) where
   pub data_inside : start + len ≤ length buf
   data_inside =
       let s = Source.handle now buf (begin c ids) in
       first_inside buf (outcome c (Handle now buf ids room)).events (Data peer start len)
       (answer_events buf (number (record { time = now; data_len = 0; ids = ids; room = room }) c s) c s (handled buf now c ids)) is
 
-  pub part_length : length (part_of (Data peer start len) buf) ≡ len
+  pub part_length : length (part_of (Some (Data peer start len)) buf) ≡ len
   part_length = let h = data_inside in rw (length-take, length-drop) (omega arith)

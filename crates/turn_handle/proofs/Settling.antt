@@ -1,5 +1,7 @@
 -- A run that used nothing and sends nothing is answered by what it came to: one law for every such answer. Then the client without one
 -- of its requests.
+use Rattle.std.specs.Prelude.{Option, None, Some}
+use Rattle.std.specs.Option.{option_to_list}
 use mathlib.Core.Path.{◌≡◌, refl, ap, sym, subst, ◌∙◌}
 use mathlib.Core.List.{List, []}
 use Prim.Native.Nat.{ℕ, ◌≤◌}
@@ -8,57 +10,64 @@ use lib.ListN.{length}
 use Rattle.turn_state.specs.declared.Client.{Client}
 use Rattle.turn_state.specs.declared.Answer.{Answer}
 use Rattle.turn_state.specs.declared.Event.{Event}
-use Rattle.turn_state.specs.declared.Event.TheVariants.{Nothing}
 use Rattle.turn_state.specs.Maps.{remove}
 use Rattle.turn_state.specs.State.{Txn, Turn, Run, begin, set_txns}
 use Rattle.turn_state.specs.Source.{under_id}
 use Rattle.turn_state.specs.Number.{given_of, number, settled}
-use Rattle.turn_state.specs.View.{view, told, txns_in, refused_answer, Tidy, Meets}
+use Rattle.turn_state.specs.View.{view, told, txns_in, Reply, done, quiet, Tidy, Meets}
 use Rattle.turn_state.proofs.Answering.{accepted_meets}
-use Rattle.turn_tables.specs.declared.Position.TheVariants.{At}
 use Rattle.turn_tables.specs.Rows.{position}
 use Rattle.turn_tables.proofs.Laws.{remove_txn, tidy_removed_request}
 use Rattle.turn_open.proofs.Lose.{none_used, nothing_used}
 use Rattle.turn_retry.specs.Retry.{without}
-use Rattle.turn_handle.specs.Handling.{Settles, Quiet, lacking}
+use Rattle.turn_handle.specs.Handling.{saying, Settles, Quiet, lacking}
 
 module _ (client : Client) (now : ℕ) (lent out : List ℕ) where
   -- what the call answers by a run
-  abbrev pub MeetsRun : Run → Answer → List ℕ → Type 0
+  abbrev pub MeetsRun : Run → Reply → List ℕ → Type 0
   MeetsRun s r after = Meets client (settled (number (given_of now lent (length out)) (view client) s) (view client) s) out r after
 
-  pub settles_meets : (s : Run) (r : Answer) → now ≤ 9007199254740991 → Settles client s r → MeetsRun s r out
+  pub settles_meets : (s : Run) (r : Answer) → now ≤ 9007199254740991 → Settles client s r → MeetsRun s (done r) out
   settles_meets s r h q =
       let g = given_of now lent (length out) in
-      accepted_meets client g s out r out (nothing_used g (view client) s h (omega arith) q.used q.silent) q.refusal q.client q.tidy q.events q.event
+      accepted_meets client g s out (done r) out (nothing_used g (view client) s h (omega arith) q.used q.silent) refl q.client q.tidy q.events q.event
       (rw q.silent q.packets) (rw q.silent q.len) (rw q.silent)
 
-  pub meets_as : (s t : Run) (r : Answer) (after : List ℕ) → t ≡ s → MeetsRun s r after → MeetsRun t r after
+  pub meets_as : (s t : Run) (r : Reply) (after : List ℕ) → t ≡ s → MeetsRun s r after → MeetsRun t r after
   meets_as s t r after e m = subst (λ (x : Run). MeetsRun x r after) (sym e) m
 
--- by the client and the events that such a run comes to
-pub settles_by : (client after : Client) (lent : List ℕ) (s : Run) (c : Turn) (l : List Event) (event : Event) (n : ℕ) → s ≡ record { self = c; out = []; ev = l; lent = lent; report = none_used }
-    → view after ≡ c → (Tidy client → Tidy after) → event ≡ told l → n ≡ length l
-    → Settles client s (record { client = after; refusal = 0; event = event; events = n; packets = 0; len = 0 })
-settles_by client after lent s c l event n e ec tidy ee en =
+-- by the client and the event that such a run comes to
+pub settles_by : (client after : Client) (lent : List ℕ) (s : Run) (c : Turn) (event : Option Event) → s ≡ record { self = c; out = []; ev = option_to_list event; lent = lent; report = none_used }
+    → view after ≡ c → (Tidy client → Tidy after) → Settles client s (saying after event)
+settles_by client after lent s c None e ec tidy =
     record {
       used = ap (λ (x : Run). x.report) e;
       silent = ap (λ (x : Run). x.out) e;
-      refusal = refl;
       client = ec ∙ sym (ap (λ (x : Run). x.self) e);
       tidy = tidy;
-      events = en ∙ sym (ap (λ (x : Run). length x.ev) e);
-      event = ee ∙ sym (ap (λ (x : Run). told x.ev) e);
+      events = sym (ap (λ (x : Run). length x.ev) e);
+      event = sym (ap (λ (x : Run). told x.ev) e);
+      packets = refl;
+      len = refl;
+    }
+settles_by client after lent s c (Some event) e ec tidy =
+    record {
+      used = ap (λ (x : Run). x.report) e;
+      silent = ap (λ (x : Run). x.out) e;
+      client = ec ∙ sym (ap (λ (x : Run). x.self) e);
+      tidy = tidy;
+      events = sym (ap (λ (x : Run). length x.ev) e);
+      event = sym (ap (λ (x : Run). told x.ev) e);
       packets = refl;
       len = refl;
     }
 
 -- nothing happens
-pub still : (client : Client) (lent : List ℕ) (s : Run) → s ≡ begin (view client) lent → Settles client s (refused_answer client 0)
-still client lent s e = settles_by client client lent s (view client) [] Nothing 0 e refl (λ t. t) refl refl
+pub still : (client : Client) (lent : List ℕ) (s : Run) → s ≡ begin (view client) lent → Settles client s (quiet client)
+still client lent s e = settles_by client client lent s (view client) None e refl (λ t. t)
 
 -- the request at i has left its table
-module _ (client : Client) (id : List ℕ) (i : ℕ) (full : length client.requests.rows ≡ 64) (found : position (under_id id) (txns_in client.requests) ≡ At i) where
+module _ (client : Client) (id : List ℕ) (i : ℕ) (full : length client.requests.rows ≡ 64) (found : position (under_id id) (txns_in client.requests) ≡ Some i) where
   lacking_view : view (lacking client i) ≡ set_txns (remove (under_id id) (txns_in client.requests)) (view client)
   lacking_view = ap (λ (l : List Txn). set_txns l (view client)) (remove_txn client.requests full (under_id id) i found)
 
@@ -81,7 +90,6 @@ module _ (client : Client) (id : List ℕ) (i : ℕ) (full : length client.reque
       record {
         used = p.used;
         silent = p.silent;
-        refusal = p.refusal;
         client = p.client;
         tidy = λ t. p.tidy (lacking_tidy t);
         events = p.events;

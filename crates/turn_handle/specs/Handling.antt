@@ -1,45 +1,44 @@
 -- What a datagram tells of, what an answer to a pending request does, and the answer of a step that sends nothing.
-use Rattle.std.specs.Prelude.{◌≡◌, List, [], ◌∷◌, ℕ, length, take, drop}
+use Rattle.std.specs.Prelude.{◌≡◌, List, [], ℕ, length, take, drop, Option, None, Some, option_map}
 use Rattle.stun_frame.specs.declared.classes.Class.{Class}
-use Rattle.stun_address.specs.declared.Peer.{Peer}
-use Rattle.stun_address.specs.declared.Peer.TheVariants.{At, Nothing as NoPeer}
-use Rattle.stun_walk.specs.declared.Found.{Found}
-use Rattle.stun_walk.specs.declared.Found.TheVariants.{At as Lies, Nothing as Missing}
+use Rattle.stun_frame.specs.declared.ChannelData.{ChannelData}
+use Rattle.stun_address.specs.declared.Address.{Address}
+use Rattle.stun_walk.specs.declared.Value.{Value}
 use Rattle.stun_walk.specs.Source.{get_of, xor_addr_of}
 use Rattle.turn_state.specs.declared.Channels.{Channels}
 use Rattle.turn_state.specs.declared.Client.{Client}
 use Rattle.turn_state.specs.declared.Answer.{Answer}
 use Rattle.turn_state.specs.declared.Event.{Event}
-use Rattle.turn_state.specs.declared.Event.TheVariants.{Nothing, Allocated, Failed, Data}
+use Rattle.turn_state.specs.declared.Event.TheVariants.{Allocated, Failed, Data}
 use Rattle.turn_state.specs.Maps.{get, if_let}
 use Rattle.turn_state.specs.State.{Run, begin}
 use Rattle.turn_state.specs.Source.{under_id, of_number, tid_of, answer, answered}
-use Rattle.turn_state.specs.View.{view, told, chans_in, Tidy}
+use Rattle.turn_state.specs.View.{view, told, chans_in, quiet, telling, Tidy}
 use Rattle.turn_tables.specs.Tables.{removed_request}
 use Rattle.turn_retry.specs.Retry.{without}
-use Rattle.turn_handle.specs.declared.Said.{Said}
 
 -- the part of a datagram that an event names
-abbrev pub part_of : Event → List ℕ → List ℕ
-part_of (Data peer start len) buf = take len (drop start buf)
-part_of Nothing buf = []
-part_of (Allocated relay mapped) buf = []
-part_of (Failed why) buf = []
+abbrev pub part_of : Option Event → List ℕ → List ℕ
+part_of (Some (Data peer start len)) buf = take len (drop start buf)
+part_of (Some (Allocated relay mapped)) buf = []
+part_of (Some (Failed why)) buf = []
+part_of None buf = []
 
--- events as a caller is told of them
-abbrev pub said_of : List Event → Said
-said_of l = record { event = told l; events = length l }
+-- an answer that changes nothing, with an event or none
+abbrev pub saying : Client → Option Event → Answer
+saying c None = quiet c
+saying c (Some e) = telling c e
 
--- the events of data on a channel's number, and of a Data indication
-abbrev pub heard : Channels → ℕ → ℕ → ℕ → List Event
-heard t number start len = if_let (get (of_number number) (chans_in t)) (λ c. Data c.peer start len ∷ []) []
+-- the event of data on a channel's number, and of a Data indication
+abbrev pub heard : Channels → ChannelData → Option Event
+heard t d = option_map (λ c. Data c.peer d.start d.len) (get (of_number d.number) (chans_in t))
 
-abbrev pub sent_data : Peer → Found → List Event
-sent_data (At peer) (Lies start len) = Data peer start len ∷ []
-sent_data (At peer) Missing = []
-sent_data NoPeer found = []
+abbrev pub sent_data : Option Address → Option Value → Option Event
+sent_data (Some peer) (Some v) = Some (Data peer v.start v.len)
+sent_data (Some peer) None = None
+sent_data None found = None
 
-abbrev pub indication : List ℕ → List Event
+abbrev pub indication : List ℕ → Option Event
 indication buf = sent_data (xor_addr_of buf 0x0012) (get_of buf 0x0013)
 
 -- a message that is no Data indication
@@ -73,7 +72,6 @@ lacking c i =
 pub record Settles (before : Client) (s : Run) (r : Answer) : Type 0 where
   pub used : s.report ≡ record { used = []; added = []; texts = []; bodies = [] }
   pub silent : s.out ≡ []
-  pub refusal : r.refusal ≡ 0
   pub client : view r.client ≡ s.self
   pub tidy : Tidy before → Tidy r.client
   pub events : r.events ≡ length s.ev

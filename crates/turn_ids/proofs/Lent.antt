@@ -4,11 +4,9 @@ use mathlib.Core.Bool.{Bool, true, false, cond}
 use mathlib.Core.List.{List, [], ◌∷◌, ◌++◌}
 use Prim.Native.Nat.{ℕ, zero, suc, ◌+◌, ◌*◌, ◌≤◌, ◌<◌}
 use native.Mathlib.Nat.{add-zero}
-use native.Mathlib.Numerals.{add-one}
 use native.Mathlib.Omega.{arith}
 use borrow.Author.Tests.{lt-ltb, ltb-true}
-use lib.ListN.{length, take, drop, set, get_or, replicate, length-take, length-drop, length-replicate}
-use lib.Seq.{take-suc, take-suc-set, take_all, get_or-drop}
+use lib.ListN.{length, take, drop, replicate, length-take, length-drop, length-replicate}
 use lib.Dec.{ltb}
 use Rattle.turn_state.specs.State.{ids_in, id_at}
 use Rattle.turn_ids.specs.Ids.{lent_id, ids_from}
@@ -34,22 +32,6 @@ lent_length lent k n false h = length-replicate n 0
 
 pub lent_twelve : (lent : List ℕ) (k : ℕ) → length (lent_id lent k) ≡ 12
 lent_twelve lent k = lent_length lent k 12 (ltb k (ids_in lent)) (λ e. let h = ltb-true k (ids_in lent) e in omega arith)
-
--- a copy, byte by byte: the first i bytes are those from `at` on
-pub copied_more : (id lent : List ℕ) (at i : ℕ) → i < length id → at + i < length lent → take i id ≡ take i (drop at lent)
-    → take (i + 1) (set id i (get_or lent (at + i) 0)) ≡ take (i + 1) (drop at lent)
-copied_more id lent at i h k e =
-    let m : i < length (drop at lent) = simp length-drop (omega arith) in
-    rw add-one
-    (take-suc-set id i (get_or lent (at + i) 0) h
-    ∙ ap (λ (r : List ℕ). r ++ (get_or lent (at + i) 0 ∷ [])) e
-    ∙ ap (λ (x : ℕ). take i (drop at lent) ++ (x ∷ [])) (sym (get_or-drop at lent i 0))
-    ∙ sym (take-suc (drop at lent) i 0 m))
-
-pub copied_all : (id lent : List ℕ) (at i n : ℕ) → length id ≡ n → i ≤ n → n ≤ i → take i id ≡ take i (drop at lent) → id ≡ take n (drop at lent)
-copied_all id lent at i n l h k e =
-    let m : i ≡ n = omega arith in
-    sym (take_all i id (omega arith)) ∙ e ∙ ap (λ (j : ℕ). take j (drop at lent)) m
 
 -- an id that was lent has twelve bytes, and one that was not has none
 pub id_twelve : (lent : List ℕ) (k : ℕ) → k < ids_in lent → length (id_at lent k) ≡ 12

@@ -6,18 +6,12 @@ ghost use Rattle.std.specs.Prelude.{◌≡◌, map, ◌-◌, ◌≤◌, min};
 ghost use Rattle.stun_check.specs.Source.{same};
 ghost use Rattle.turn_state.specs.Maps.{contains};
 ghost use Rattle.turn_state.specs.State.{ids_in};
-ghost use Rattle.turn_state.specs.Number.{clash};
+ghost use Rattle.turn_state.specs.Number.{clash, number_in};
 ghost use Rattle.turn_state.specs.View.{txns_in};
 ghost use Rattle.turn_ids.specs.Ids.{lent_id, ids_from, request_full, verdict_of};
 
-use turn_state::Requests;
-use turn_tables::{Position, find_request, same_id};
-
-fn least(a: usize, b: usize) -> usize
-    ensures { result ≡ min a b }
-{
-    if a < b { a } else { b }
-}
+use turn_state::{Refusal, Requests};
+use turn_tables::find_request;
 
 // How many ids are lent.
 pub fn id_count(ids: &[u8]) -> usize
@@ -31,64 +25,39 @@ pub fn id_of(ids: &[u8], k: usize) -> [u8; 12]
     ensures { result ≡ lent_id ids.now k }
 {
     let mut id = [0; 12];
-    let count = id_count(ids);
-    if count <= k {
-        return id;
-    }
-    let at = 12 * k;
-    let mut i = 0;
-    while i < 12 {
-        id[i] = ids[at + i];
-        i += 1;
+    if k < id_count(ids) {
+        let at = 12 * k;
+        id.copy_from_slice(&ids[at..at + 12]);
     }
     id
 }
 
 // Some request has that id.
+#[tactic(auto, using(crate::proofs::Clashing::pending_is))]
 fn is_pending(t: Requests, id: [u8; 12]) -> bool
     ensures { result ≡ contains (λ x. same x id) (map (λ x. x.msg.tid) (txns_in t)) }
 {
-    let place = find_request(t, id);
-    match place {
-        Position::At(_) => true,
-        Position::Nowhere => false,
-    }
+    find_request(t, id).is_some()
 }
 
 // Some id of those from `from` up to n, which are lent, is that one.
 fn among(ids: &[u8], id: [u8; 12], from: usize, n: usize) -> bool
-    requires from_le_n { from ≤ n }
-    requires n_bound { n ≤ ids_in ids.now }
+    requires { n ≤ ids_in ids.now }
     ensures { result ≡ contains (λ x. same x id) (ids_from ids.now from (n - from)) }
 {
-    let mut j = from;
-    while j < n {
-        let other = id_of(ids, j);
-        if same_id(other, id) {
-            return true;
-        }
-        j += 1;
-    }
-    false
+    (from..n).any(|j| id_of(ids, j) == id)
 }
 
 // Of the first `used` ids, as far as they were lent, one is pending, or equals a later one.
 pub fn clashes(t: Requests, ids: &[u8], used: usize) -> bool
     ensures { result ≡ clash (map (λ x. x.msg.tid) (txns_in t)) (ids_from ids.now 0 (min used (ids_in ids.now))) }
 {
-    let count = id_count(ids);
-    let n = least(used, count);
-    let mut k = 0;
-    while k < n {
-        let next = k + 1;
+    let n = used.min(id_count(ids));
+    for k in 0..n {
         let id = id_of(ids, k);
-        if is_pending(t, id) {
+        if is_pending(t, id) || among(ids, id, k + 1, n) {
             return true;
         }
-        if among(ids, id, next, n) {
-            return true;
-        }
-        k = next;
     }
     false
 }
@@ -104,11 +73,10 @@ pub fn meets_full(t: Requests, ids: &[u8], k: usize) -> bool
     if id_count(ids) <= k {
         return true;
     }
-    let id = id_of(ids, k);
-    !is_pending(t, id)
+    !is_pending(t, id_of(ids, k))
 }
 
-// The number of a call that met a full table or not, uses the first `used` ids and writes `size` bytes.
+// 5 to 8, of a call that met a full table or not, uses the first `used` ids and writes `size` bytes.
 pub fn verdict(
     pending: Requests,
     full: bool,
@@ -116,20 +84,20 @@ pub fn verdict(
     ids: &[u8],
     size: usize,
     room: usize,
-) -> u32
-    ensures { result ≡ verdict_of full (map (λ x. x.msg.tid) (txns_in pending)) ids.now used size room }
+) -> Result<(), Refusal>
+    ensures { number_in result ≡ verdict_of full (map (λ x. x.msg.tid) (txns_in pending)) ids.now used size room }
 {
     if full {
-        return 5;
+        return Err(Refusal::Full);
     }
     if id_count(ids) < used {
-        return 6;
+        return Err(Refusal::FewIds);
     }
     if clashes(pending, ids, used) {
-        return 7;
+        return Err(Refusal::TakenId);
     }
     if room < size {
-        return 8;
+        return Err(Refusal::SmallOutput);
     }
-    0
+    Ok(())
 }

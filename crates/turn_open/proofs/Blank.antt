@@ -1,4 +1,5 @@
 -- The client that holds nothing: its view is the definition's new client, and it is tidy. The numbers of an opening.
+use Rattle.std.specs.Prelude.{Result, Ok, Err}
 use mathlib.Core.Path.{◌≡◌, refl, sym, ap, ap₂, ◌∙◌}
 use mathlib.Core.Bool.{Bool, true, false, cond, ◌||◌}
 use mathlib.Core.List.{List, []}
@@ -14,10 +15,12 @@ use Rattle.stun_text.proofs.Laws.{text_bytes}
 use Rattle.turn_state.specs.declared.Client.{Client}
 use Rattle.turn_state.specs.State.{Turn}
 use Rattle.turn_state.specs.Source.{new}
-use Rattle.turn_state.specs.Number.{open_number}
+use Rattle.turn_state.specs.declared.Refusal.{Refusal}
+use Rattle.turn_state.specs.declared.Refusal.TheVariants.{Late, LongText, IllFormed, LongBody, Full, FewIds, TakenId, SmallOutput}
+use Rattle.turn_state.specs.Number.{number_of, open_number}
 use Rattle.turn_state.specs.View.{view, TidyText, TidyTable, Tidy, no_rows, no_text}
 use Rattle.turn_open.specs.Fresh.{fresh_client}
-use Rattle.turn_open.specs.Opening.{Opening}
+use Rattle.turn_open.specs.Opening.{Opening, opened_of}
 use Rattle.turn_open.proofs.Zeros.{text_tidy}
 
 -- a table of blank rows is tidy
@@ -65,32 +68,40 @@ accepted_lengths username password n e z =
     let f = neither (ltb 508 (length username)) (ltb 256 (length password)) _ (sym e ∙ z) in
     (ltb-false _ _ f.0, ltb-false _ _ f.1)
 
-module _ (username password : List ℕ) (reliable : Bool) (n : ℕ) (client : Client) (e : n ≡ open_number username password) where
+module _ (username password : List ℕ) (reliable : Bool) where
   chosen : Bool → Turn
   chosen b = cond b (new username password reliable) (new [] [] false)
 
-  pub refused : (n ≡ 0 → ⊥) → client ≡ fresh_client no_text no_text false
-      → Opening username password reliable (record { client = client; refusal = n })
-  unfolding chosen
-  refused h c =
-      record {
-        refusal = e;
-        client = ap view c ∙ sym (ap chosen (ne_eqb (open_number username password) 0 (λ z. h (e ∙ z))));
-        tidy = rw c (fresh_tidy no_text no_text false no_text_tidy no_text_tidy);
-      }
+  number_nonzero : (r : Refusal) → number_of r ≡ 0 → ⊥
+  number_nonzero Late e = omega arith
+  number_nonzero LongText e = omega arith
+  number_nonzero IllFormed e = omega arith
+  number_nonzero LongBody e = omega arith
+  number_nonzero Full e = omega arith
+  number_nonzero FewIds e = omega arith
+  number_nonzero TakenId e = omega arith
+  number_nonzero SmallOutput e = omega arith
 
-  pub accepted : n ≡ 0 → client ≡ fresh_client (text_of username) (text_of password) reliable
-      → Opening username password reliable (record { client = client; refusal = 0 })
+  pub refused : (result : Result Client Refusal) (r : Refusal) → result ≡ Err r → number_of r ≡ open_number username password
+      → Opening username password reliable (opened_of result)
   unfolding chosen
-  accepted z c =
-      let l = accepted_lengths username password n e z in
+  refused result r is e =
+      rw is
+      (record {
+        refusal = e;
+        client = sym (ap chosen (ne_eqb (open_number username password) 0 (λ z. number_nonzero r (e ∙ z))));
+        tidy = fresh_tidy no_text no_text false no_text_tidy no_text_tidy;
+      })
+
+  pub accepted : (client : Client) → 0 ≡ open_number username password → client ≡ fresh_client (text_of username) (text_of password) reliable
+      → Opening username password reliable (opened_of (Ok client))
+  unfolding chosen
+  accepted client e c =
+      let l = accepted_lengths username password 0 e refl in
       let u : length username ≤ 763 = omega (arith, l.0) in
       let p : length password ≤ 763 = omega (arith, l.1) in
       record {
-        refusal = sym z ∙ e;
-        client =
-            ap view c
-            ∙ fresh_view username password reliable u p
-            ∙ sym (ap chosen (eq-eqb (open_number username password) 0 (sym e ∙ z)));
+        refusal = e;
+        client = ap view c ∙ fresh_view username password reliable u p ∙ sym (ap chosen (eq-eqb (open_number username password) 0 (sym e)));
         tidy = rw c (fresh_tidy (text_of username) (text_of password) reliable (text_tidy username u) (text_tidy password p));
       }

@@ -8,15 +8,14 @@ use borrow.Author.Tests.{le-ltb}
 use Rattle.turn_state.specs.declared.Requests.{Requests}
 use Rattle.turn_state.specs.declared.Client.{Client}
 use Rattle.turn_state.specs.declared.Answer.{Answer}
-use Rattle.turn_state.specs.declared.Event.{Event}
-use Rattle.turn_state.specs.declared.Event.TheVariants.{Nothing, Failed}
+use Rattle.turn_state.specs.declared.Event.TheVariants.{Failed}
 use Rattle.turn_state.specs.declared.Reason.TheVariants.{Lost}
 use Rattle.turn_state.specs.Maps.{is_some}
 use Rattle.turn_state.specs.State.{Turn, Report, Run, begin, on_self, tell, set_txns, set_closing, set_done, ids_in}
 use Rattle.turn_state.specs.Source.{transport_failed}
-use Rattle.turn_state.specs.Number.{Given, Outcome, number, settled}
+use Rattle.turn_state.specs.Number.{Given, given_of, Outcome, number, settled}
 use Rattle.turn_state.specs.Sequence.{outcome, TransportFailed}
-use Rattle.turn_state.specs.View.{view, held, address_in, Tidy, Meets}
+use Rattle.turn_state.specs.View.{view, held, address_in, Tidy, Meets, done, quiet, telling}
 use Rattle.turn_open.specs.Fresh.{blank_requests}
 use Rattle.turn_open.proofs.Blank.{blank_tidy}
 
@@ -36,7 +35,7 @@ some_held true a = refl
 some_held false a = refl
 
 lost_given : Given
-lost_given = record { time = 0; data_len = 0; ids = []; room = 0 }
+lost_given = given_of 0 [] 0
 
 -- the answer by the run that the failure makes
 settles : (before : Turn) (s : Run) → transport_failed (begin before []) ≡ s → s.report ≡ none_used → s.out ≡ []
@@ -49,7 +48,7 @@ settles before s e r o =
 
 -- the client that has nothing pending and is closing
 abbrev pub closed : Client → Requests → Bool → Client
-closed c q done =
+closed c q is-done =
     record {
       password = c.password;
       credentials = c.credentials;
@@ -61,17 +60,14 @@ closed c q done =
       next_num = c.next_num;
       has_relay = c.has_relay;
       has_refresh = c.has_refresh;
-      done = done;
+      done = is-done;
       closing = true;
       reliable = c.reliable;
     }
 
-abbrev pub answered : Client → Event → ℕ → Answer
-answered c event events = record { client = c; refusal = 0; event = event; events = events; packets = 0; len = 0 }
-
 module _ (c : Client) where
-  closed_tidy : (done : Bool) → Tidy c → Tidy (closed c blank_requests done)
-  closed_tidy done t =
+  closed_tidy : (is-done : Bool) → Tidy c → Tidy (closed c blank_requests is-done)
+  closed_tidy is-done t =
       record {
         password = t.password;
         credentials = t.credentials;
@@ -92,11 +88,11 @@ module _ (c : Client) where
   unfolding transport_failed branch after
   fails b h = ap branch (ap (λ (r : Bool). c.done && r) (some_held c.has_relay (address_in c.relay)) ∙ h)
 
-  pub lost_quiet : (q : Requests) → q ≡ blank_requests → (c.done && c.has_relay) ≡ true
-      → Meets c (outcome (view c) TransportFailed) [] (answered (closed c q c.done) Nothing 0) []
+  pub lost_quiet : (q : Requests) (r : Answer) → q ≡ blank_requests → (c.done && c.has_relay) ≡ true → r ≡ quiet (closed c q c.done)
+      → Meets c (outcome (view c) TransportFailed) [] (done r) []
   unfolding branch after
-  lost_quiet q e h =
-      rw (e, settles (view c) (branch true) (fails true h) refl refl)
+  lost_quiet q r e h a =
+      rw (a, e, settles (view c) (branch true) (fails true h) refl refl)
       (record {
         refusal = refl;
         client = refl;
@@ -109,11 +105,11 @@ module _ (c : Client) where
         output = refl;
       })
 
-  pub lost_told : (q : Requests) → q ≡ blank_requests → (c.done && c.has_relay) ≡ false
-      → Meets c (outcome (view c) TransportFailed) [] (answered (closed c q true) (Failed Lost) 1) []
+  pub lost_told : (q : Requests) (r : Answer) → q ≡ blank_requests → (c.done && c.has_relay) ≡ false → r ≡ telling (closed c q true) (Failed Lost)
+      → Meets c (outcome (view c) TransportFailed) [] (done r) []
   unfolding branch after
-  lost_told q e h =
-      rw (e, settles (view c) (branch false) (fails false h) refl refl)
+  lost_told q r e h a =
+      rw (a, e, settles (view c) (branch false) (fails false h) refl refl)
       (record {
         refusal = refl;
         client = refl;

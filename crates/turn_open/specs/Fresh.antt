@@ -42,3 +42,7 @@ fresh_client username password reliable =
       closing = false;
       reliable = reliable;
     }
+
+-- the client after a refused opening
+abbrev pub unopened_client : Client
+unopened_client = fresh_client no_text no_text false

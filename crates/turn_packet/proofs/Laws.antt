@@ -1,15 +1,13 @@
 -- A packet is what `encode` gives for the client that holds the credentials (`packet_encode`); it has as many bytes as the arithmetic
 -- says (`packet_length`), at most 3,000 (`packet_bound`). Sizes are joined part by part: a text, an address, a kind, the credentials.
-use mathlib.Core.Path.{◌≡◌, refl, sym, ap, ap₂, ◌∙◌}
+use mathlib.Core.Path.{◌≡◌, refl, ap, ap₂, ◌∙◌}
 use mathlib.Core.Bool.{Bool, true, false, cond}
-use mathlib.Core.Logic.{◌⊎◌, inl, inr}
 use mathlib.Core.List.{List, [], ◌∷◌, ◌++◌}
-use Prim.Native.Nat.{ℕ, ◌+◌, ◌-◌, ◌≤◌, ◌<◌, min}
+use Prim.Native.Nat.{ℕ, ◌+◌, ◌-◌, ◌≤◌, min}
 use native.Mathlib.Omega.{arith}
 use native.Mathlib.Nat.{sub-zero}
 use lib.ListN.{length, take, replicate, length-append, length-take}
-use lib.Seq.{take_at, take_all}
-use Rattle.stun_frame.proofs.Reading.{compared}
+use lib.Seq.{take_at}
 use Rattle.stun_address.specs.declared.Ip.{Ip}
 use Rattle.stun_address.specs.declared.Ip.TheVariants.{V4, V6}
 use Rattle.stun_address.specs.declared.Address.{Address}
@@ -56,17 +54,6 @@ packet_is c a id under =
 -- the size of each part
 pub length_text : (t : Text) → length t.bytes ≡ 763 → length (text_in t) ≡ min t.len 763
 length_text t e = length-take t.len t.bytes ∙ ap (λ (k : ℕ). min t.len k) e
-
--- the first bytes of a text's room, as the code takes them
-take_min : (l : List ℕ) (n k : ℕ) → length l ≡ k → take (min n k) l ≡ take n l
-take_min l n k e = go (compared k n)
-  where
-    go : (k < n) ⊎ (n ≤ k) → take (min n k) l ≡ take n l
-    go (inl h) = let m : min n k ≡ k = omega arith in rw m (take_all k l (omega arith) ∙ sym (take_all n l (omega arith)))
-    go (inr h) = let m : min n k ≡ n = omega arith in rw m
-
-pub text_value : (t : Text) (n : ℕ) → length t.bytes ≡ 763 → n ≡ min t.len 763 → take (n - 0) t.bytes ≡ text_in t
-text_value t n l e = ap (λ (k : ℕ). take k t.bytes) (sub-zero n ∙ e) ∙ take_min t.bytes t.len 763 l
 
 pub text_bound : (t : Text) → text_size t ≤ 768
 text_bound t = omega arith

@@ -1,4 +1,6 @@
 -- What each step leaves in the room, over lists: one part behind another, the seal around them, the three bytes before the message.
+use Rattle.std.specs.Prelude.{Ok, Err}
+use Rattle.stun_frame.specs.declared.Unwritten.{Unwritten}
 use mathlib.Core.Path.{◌≡◌, sym, ap, ap₂, ◌∙◌}
 use mathlib.Core.Bool.{Bool, true}
 use mathlib.Core.List.{List, [], ◌∷◌, ◌++◌, append_assoc, append-nil}
@@ -9,9 +11,7 @@ use lib.ListN.{length, take, drop, set, length-append, length-drop, take-append-
 use lib.Seq.{take_all, drop-length, take_at, drop_at, take-append-le, take-take, drop-drop, length-take-le, sets-eq}
 use borrow.Author.Tests.{le-ltb}
 use borrow.Rule.Slice.PartMut.{mid_of, post_of, put_mid, Post-is}
-use Rattle.stun_frame.specs.declared.Written.{Written}
-use Rattle.stun_frame.specs.declared.Written.TheVariants.{Bytes}
-use Rattle.stun_frame.specs.Source.{to_be, room_after}
+use Rattle.stun_frame.specs.Source.{to_be, room_after, Written}
 use Rattle.stun_write.specs.Source.{push_attr, attr_size, key_of, encoded, sealed_size, fitted, fitted_attr}
 use Rattle.stun_write.proofs.Answers.{is_bytes, from_equations, sealed_as}
 use Rattle.stun_write.proofs.Places.{behind}
@@ -20,11 +20,17 @@ use Rattle.turn_state.specs.Number.{framed}
 -- an attribute that fits
 pub fits : (out after v : List ℕ) (at typ : ℕ) (r : Written) → length v ≤ 65535 → at + attr_size (length v) ≤ 65555 → at + attr_size (length v) ≤ length out
     → r ≡ fitted_attr v (at + attr_size (length v)) (length out) → after ≡ room_after r (take at out ++ push_attr typ v) out
-    → after ≡ take at out ++ push_attr typ v ++ drop (at + attr_size (length v)) out
+    → (r ≡ Ok (at + attr_size (length v))) × (after ≡ take at out ++ push_attr typ v ++ drop (at + attr_size (length v)) out)
 unfolding fitted_attr
 fits out after v at typ r h g w e f =
-    let d : r ≡ Bytes (at + attr_size (length v)) = e ∙ rw (le-ltb 65535 (length v) h) (is_bytes _ _ g w) in
-    f ∙ ap (λ (x : Written). room_after x (take at out ++ push_attr typ v) out) d
+    let d : r ≡ Ok (at + attr_size (length v)) = e ∙ rw (le-ltb 65535 (length v) h) (is_bytes _ _ g w) in
+    (d, f ∙ ap (λ (x : Written). room_after x (take at out ++ push_attr typ v) out) d)
+
+pub same_place : {r : Written} {n m : ℕ} → r ≡ Ok n → r ≡ Ok m → n ≡ m
+same_place e f = cc
+
+pub never : {r : Written} {n : ℕ} {why : Unwritten} → r ≡ Ok n → r ≡ Err why → ⊥
+never e f = cc
 
 -- `b`, of n bytes, put at `at`: r is the place after it
 abbrev pub Put : List ℕ → ℕ → List ℕ → ℕ → ℕ → List ℕ → Type 0
@@ -66,7 +72,7 @@ module _ (out b : List ℕ) (at n : ℕ) (sized : length b ≡ n) (room : at ≤
             ∙ ap (λ (x : List ℕ). x ++ drop (at + (n + m)) out) (append_assoc (take at out) b b₂),
       )
 
-  length-after : (o : List ℕ) → at + n ≤ length out → o ≡ take at out ++ b ++ drop (at + n) out → length o ≡ length out
+  pub length-after : (o : List ℕ) → at + n ≤ length out → o ≡ take at out ++ b ++ drop (at + n) out → length o ≡ length out
   length-after o h p =
       ap length p ∙ length-append (take at out ++ b) (drop (at + n) out)
       ∙ ap₂ (λ (x y : ℕ). x + y) front_length (length-drop (at + n) out) ∙ omega arith
@@ -89,7 +95,7 @@ pub sealed : (out o after body id key : List ℕ) (n end typ : ℕ) (sign : Bool
     → sealed_size n sign true ≤ length out → sealed_size n sign true ≤ 65555 → o ≡ take 20 out ++ body ++ drop (20 + n) out
     → (r ≡ fitted (sealed_size (end - 20) sign true) (length o))
     × (after ≡ room_after r (encoded typ id (take (end - 20) (drop 20 o)) (key_of sign key) true) o)
-    → after ≡ encoded typ id body (key_of sign key) true ++ drop (sealed_size n sign true) out
+    → (r ≡ Ok (sealed_size n sign true)) × (after ≡ encoded typ id body (key_of sign key) true ++ drop (sealed_size n sign true) out)
 sealed out o after body id key n end typ sign r lb le w g p e =
     let lo : length o ≡ length out = length-after out body 20 n lb (omega arith) o (omega arith) p in
     let m : List ℕ = encoded typ id body (key_of sign key) true in
@@ -99,7 +105,7 @@ sealed out o after body id key n end typ sign r lb le w g p e =
     ∙ ap (take n) (drop_at (take 20 out) (body ++ drop (20 + n) out) 20 (length-take-le 20 out (omega arith))) ∙ take_at body _ n lb in
     let s = sealed_as o body id key after end typ sign true r b (omega arith) (from_equations e) in
     let z : sealed_size (length body) sign true ≡ sealed_size n sign true = ap (λ (k : ℕ). sealed_size k sign true) lb in
-    let due : fitted (sealed_size (length body) sign true) (length o) ≡ Bytes (sealed_size n sign true) =
+    let due : fitted (sealed_size (length body) sign true) (length o) ≡ Ok (sealed_size n sign true) =
     ap₂ (λ (x y : ℕ). fitted x y) z lo ∙ is_bytes _ _ g w in
     let k : ℕ = sealed_size n sign true - (20 + n) in
     let ek : sealed_size n sign true ≡ 20 + n + k = omega arith in
@@ -107,7 +113,7 @@ sealed out o after body id key n end typ sign r lb le w g p e =
     ap (λ (i : ℕ). drop i o) ek
     ∙ ap (drop (20 + n + k)) p ∙ behind (take 20 out ++ body) out (20 + n) k (front_length out body 20 n lb (omega arith))
     ∙ ap (λ (i : ℕ). drop i out) (sym ek) in
-    s.left ∙ ap (λ (x : Written). room_after x m o) due ∙ ap (λ (l : List ℕ). m ++ l) d
+    (s.answered ∙ due, s.left ∙ ap (λ (x : Written). room_after x m o) due ∙ ap (λ (l : List ℕ). m ++ l) d)
 
 regroup : (t v p d f : List ℕ) → f ≡ v ++ p → t ++ v ++ (p ++ d) ≡ t ++ f ++ d
 regroup t v p d f e =

@@ -1,5 +1,7 @@
 -- The steps of a message put together: a kind's attributes, the credentials behind them, the seal around both; and what is answered
 -- where the packet fits and where it does not.
+use Rattle.std.specs.Prelude.{Ok, Err}
+use Rattle.stun_frame.specs.declared.Unwritten.TheVariants.{NoRoom}
 use mathlib.Core.Path.{◌≡◌, sym, ap, ap₂, ◌∙◌}
 use mathlib.Core.Bool.{true, cond}
 use mathlib.Core.List.{List, ◌++◌}
@@ -8,9 +10,7 @@ use native.Mathlib.Omega.{arith}
 use lib.ListN.{length, take, drop}
 use lib.Dec.{leb}
 use borrow.Author.Tests.{le-leb, lt-leb}
-use Rattle.stun_frame.specs.declared.Written.{Written}
-use Rattle.stun_frame.specs.declared.Written.TheVariants.{Bytes, NoRoom}
-use Rattle.stun_frame.specs.Source.{room_after}
+use Rattle.stun_frame.specs.Source.{room_after, Written}
 use Rattle.stun_write.specs.Source.{attributes, key_of, encoded, sealed_size, fitted}
 use Rattle.turn_state.specs.declared.Kind.{Kind}
 use Rattle.turn_state.specs.declared.Asked.{Asked}
@@ -30,7 +30,7 @@ pub message_put : (c : Credentials) (a : Asked) (id under out o₁ o₂ after : 
     → Put out 20 (attributes (attrs_of kind under)) (own_size kind) b o₁ → Put o₁ b (attributes (auth_of c)) (auth_size c) e o₂
     → (r ≡ fitted (sealed_size (e - 20) c.has_key true) (length o₂))
     × (after ≡ room_after r (encoded typ id (take (e - 20) (drop 20 o₂)) (key_of c.has_key c.key) true) o₂)
-    → after ≡ packet_of c a id under ++ drop (packet_size c a) out
+    → (r ≡ Ok (packet_size c a)) × (after ≡ packet_of c a id under ++ drop (packet_size c a) out)
 message_put c a id under out o₁ o₂ after kind typ b e r g lu w ek et p q s =
     let n : ℕ = own_size (kind_in a) + auth_size c in
     let z : sealed_size n c.has_key true ≡ packet_size c a = size_is c a in
@@ -40,14 +40,17 @@ message_put c a id under out o₁ o₂ after kind typ b e r g lu w ek et p q s =
     let u : Put out 20 (body_of c a under) n e o₂ =
     then out (attributes (attrs_of (kind_in a) under)) 20 (own_size (kind_in a)) (length_own (kind_in a) under lu) h o₁ o₂
     (attributes (auth_of c)) (auth_size c) b e p' q in
+    let f =
     sealed out o₂ after (body_of c a under) id c.key n e typ c.has_key r
-    (length-body c g.username g.realm g.nonce a under lu) u.0 (omega arith) (omega (arith, packet_bound c a)) u.1 s
-    ∙ ap₂ (λ (l : List ℕ) (k : ℕ). l ++ drop k out)
-    (ap (λ (t : ℕ). encoded t id (body_of c a under) (key_of c.has_key c.key) true) (et ∙ ap type_of ek) ∙ sym (packet_is c a id under)) z
+    (length-body c g.username g.realm g.nonce a under lu) u.0 (omega arith) (omega (arith, packet_bound c a)) u.1 s in (
+      f.0 ∙ ap (λ (k : ℕ). Ok k) z,
+      f.1 ∙ ap₂ (λ (l : List ℕ) (k : ℕ). l ++ drop k out)
+          (ap (λ (t : ℕ). encoded t id (body_of c a under) (key_of c.has_key c.key) true) (et ∙ ap type_of ek) ∙ sym (packet_is c a id under)) z,
+    )
 
 -- the answers
-pub refused : (n room : ℕ) → room < n → NoRoom ≡ cond (leb n room) (Bytes n) NoRoom
+pub refused : (n room : ℕ) → room < n → (Err NoRoom) ≡ cond (leb n room) (Ok n) (Err NoRoom)
 refused n room h = rw (lt-leb n room h)
 
-pub answered : (at size k room : ℕ) → size ≡ k → at + 3 + k ≤ room → Bytes (at + 3 + size) ≡ cond (leb (at + 3 + k) room) (Bytes (at + 3 + k)) NoRoom
-answered at size k room e h = rw (le-leb (at + 3 + k) room h) (ap (λ (n : ℕ). Bytes (at + 3 + n)) e)
+pub answered : (at size k room : ℕ) → size ≡ k → at + 3 + k ≤ room → Ok (at + 3 + size) ≡ cond (leb (at + 3 + k) room) (Ok (at + 3 + k)) (Err NoRoom)
+answered at size k room e h = rw (le-leb (at + 3 + k) room h) (ap (λ (n : ℕ). Ok (at + 3 + n)) e)

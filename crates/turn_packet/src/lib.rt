@@ -2,7 +2,8 @@
 // RFC 8656 sections 7.1 (Allocate), 8.1 (Refresh), 10.1 (CreatePermission), 12.1 (ChannelBind); RFC 8489 section 9.2.3 (credentials).
 #![tactic(auto)]
 
-ghost use Rattle.std.specs.Prelude.{◌≡◌, cond, [], ◌∷◌, ◌++◌, ◌+◌, ◌≤◌, min, length, take, drop, leb};
+ghost use Rattle.std.specs.Prelude.{◌≡◌, Ok, Err, cond, [], ◌∷◌, ◌++◌, ◌+◌, ◌≤◌, min, length, take, drop, leb};
+ghost use Rattle.stun_frame.specs.declared.Unwritten.TheVariants.{NoRoom};
 ghost use Rattle.stun_frame.specs.Source.{room_after};
 ghost use Rattle.stun_address.specs.Source.{encode_xor_addr};
 ghost use Rattle.stun_write.specs.Source.{push_attr, attr_size, attributes};
@@ -11,7 +12,7 @@ ghost use Rattle.turn_state.specs.View.{type_of as «type_in», attrs_of, text_i
 ghost use Rattle.turn_packet.specs.Source.{packet_of, packet_size as «packet_bytes», text_size as «text_bytes», address_size as «address_bytes», own_size as «own_bytes», auth_size as «auth_bytes», auth_of};
 
 use stun_address::{Address, Ip};
-use stun_frame::Written;
+use stun_frame::Unwritten;
 use stun_frame::names::{
     ALLOCATE_REQUEST, ATTR_CHANNEL_NUMBER, ATTR_LIFETIME, ATTR_NONCE, ATTR_REALM,
     ATTR_REQUESTED_TRANSPORT, ATTR_SOFTWARE, ATTR_USERNAME, ATTR_XOR_PEER_ADDRESS,
@@ -24,13 +25,8 @@ use turn_state::{Asked, Credentials, Kind};
 pub fn packet_size(c: Credentials, a: Asked) -> usize
     ensures { (result ≡ «packet_bytes» c a) × (result ≤ 3000) }
 {
-    let kind = turn_state::kind_of(a);
-    let own = own_size(kind);
-    let auth = auth_size(c);
-    if c.has_key {
-        return 20 + own + auth + 24 + 8;
-    }
-    20 + own + auth + 8
+    let bare = 20 + own_size(Kind::from(a)) + auth_size(c) + 8;
+    if c.has_key { bare + 24 } else { bare }
 }
 
 // The packet at the place `at`. The answer is the place after it; where it does not fit nothing is written.
@@ -41,37 +37,40 @@ pub fn write_packet(
     a: Asked,
     id: [u8; 12],
     under: [u8; 12],
-) -> Written
-    ensures { (result ≡ cond (leb (at + 3 + «packet_bytes» c a) (length out.old)) (Written.Bytes (at + 3 + «packet_bytes» c a)) Written.NoRoom)
+) -> Result<usize, Unwritten>
+    ensures { (result ≡ cond (leb (at + 3 + «packet_bytes» c a) (length out.old)) (Ok (at + 3 + «packet_bytes» c a)) (Err NoRoom))
         × (out.new ≡ room_after result (take at out.old ++ framed (packet_of c a id under ∷ [])) out.old) }
 {
     let size = packet_size(c, a);
     if out.len() < at {
-        return Written::NoRoom;
+        return Err(Unwritten::NoRoom);
     }
     if out.len() - at < 3 + size {
-        return Written::NoRoom;
+        return Err(Unwritten::NoRoom);
     }
     let start = at + 3;
-    message(&mut out[start..], c, a, id, under);
+    let size = message(&mut out[start..], c, a, id, under)?;
     out[at] = 1;
     out[at + 1] = (size / 256) as u8;
     out[at + 2] = (size % 256) as u8;
-    Written::Bytes(at + 3 + size)
+    Ok(start + size)
 }
 
 // The message in front of the room.
-fn message(out: &mut [u8], c: Credentials, a: Asked, id: [u8; 12], under: [u8; 12])
+fn message(
+    out: &mut [u8],
+    c: Credentials,
+    a: Asked,
+    id: [u8; 12],
+    under: [u8; 12],
+) -> Result<usize, Unwritten>
     requires { «packet_bytes» c a ≤ length out.old }
-    ensures { out.new ≡ packet_of c a id under ++ drop («packet_bytes» c a) out.old }
+    ensures { (result ≡ Ok («packet_bytes» c a)) × (out.new ≡ packet_of c a id under ++ drop («packet_bytes» c a) out.old) }
 {
-    let kind = turn_state::kind_of(a);
-    let typ = type_of(kind);
-    let key = c.key;
-    let signed = c.has_key;
+    let kind = Kind::from(a);
     let b = own(out, kind, under);
     let e = auth(out, b, c);
-    stun_write::seal(out, e, typ, id, &key, signed, true);
+    stun_write::seal(out, e, type_of(kind), id, &c.key, c.has_key, true)
 }
 
 fn type_of(kind: Kind) -> u16
@@ -96,22 +95,8 @@ fn own(out: &mut [u8], kind: Kind, under: [u8; 12]) -> usize
             let b = attr(out, 20, ATTR_REQUESTED_TRANSPORT, &transport);
             attr(out, b, ATTR_SOFTWARE, b"tauri-plugin-webrtc")
         }
-        Kind::Refresh(lifetime) => {
-            let x1 = lifetime / 256;
-            let x2 = x1 / 256;
-            let x3 = x2 / 256;
-            let value = [
-                (x3 % 256) as u8,
-                (x2 % 256) as u8,
-                (x1 % 256) as u8,
-                (lifetime % 256) as u8,
-            ];
-            attr(out, 20, ATTR_LIFETIME, &value)
-        }
-        Kind::Permission(ip) => {
-            let to = Address { ip: ip, port: 0 };
-            peer(out, 20, to, under)
-        }
+        Kind::Refresh(lifetime) => { attr(out, 20, ATTR_LIFETIME, &lifetime.to_be_bytes()) }
+        Kind::Permission(ip) => { peer(out, 20, Address { ip, port: 0 }, under) }
         Kind::ChannelBind(to, number) => {
             let value = [(number / 256) as u8, (number % 256) as u8, 0, 0];
             let b = attr(out, 20, ATTR_CHANNEL_NUMBER, &value);
@@ -157,9 +142,7 @@ fn text(out: &mut [u8], at: usize, typ: u16, t: Text) -> usize
     requires { (at ≤ 3000) × (at + «text_bytes» t ≤ length out.old) }
     ensures { (result ≡ at + «text_bytes» t) × (out.new ≡ take at out.old ++ push_attr typ (text_in t) ++ drop (at + «text_bytes» t) out.old) }
 {
-    let n = text_len(t);
-    let bytes = t.bytes;
-    attr(out, at, typ, &bytes[0..n])
+    attr(out, at, typ, t.as_slice())
 }
 
 // An attribute, where there is room for it. The answer is the place after it.
@@ -167,25 +150,14 @@ fn attr(out: &mut [u8], at: usize, typ: u16, value: &[u8]) -> usize
     requires { (at ≤ 3000) × (length value.now ≤ 763) × (at + attr_size (length value.now) ≤ length out.old) }
     ensures { (result ≡ at + attr_size (length value.now)) × (out.new ≡ take at out.old ++ push_attr typ value.now ++ drop (at + attr_size (length value.now)) out.old) }
 {
-    stun_write::push_attr(out, at, typ, value);
-    let n = value.len();
-    at + 4 + n + (4 - n % 4) % 4
+    stun_write::push_attr(out, at, typ, value).unwrap()
 }
 
-// How many bytes a text has, the attributes of a kind, an address, and the credentials.
-fn text_len(t: Text) -> usize
-    ensures { result ≡ min t.len 763 }
-{
-    if t.len < 763 {
-        return t.len;
-    }
-    763
-}
-
+// How many bytes a text has as an attribute, an address, the attributes of a kind, and the credentials.
 fn text_size(t: Text) -> usize
     ensures { (result ≡ «text_bytes» t) × (result ≤ 768) }
 {
-    let n = text_len(t);
+    let n = t.as_slice().len();
     4 + n + (4 - n % 4) % 4
 }
 
@@ -205,10 +177,7 @@ fn own_size(kind: Kind) -> usize
         Kind::Allocate => 8 + 24,
         Kind::Refresh(_) => 8,
         Kind::Permission(ip) => address_size(ip),
-        Kind::ChannelBind(to, _) => {
-            let ip = to.ip;
-            8 + address_size(ip)
-        }
+        Kind::ChannelBind(to, _) => { 8 + address_size(to.ip) }
     }
 }
 

@@ -1,8 +1,9 @@
 -- Laws of the maps: what is found is under its key, what is put is found, and a key stays once it is there.
+use Rattle.std.specs.Prelude.{Some}
+use Rattle.std.proofs.lemmas.Bool.{and_parts}
 use mathlib.Core.Path.{◌≡◌, refl, ap, sym, ◌∙◌}
-use mathlib.Core.Bool.{Bool, true, false, cond, ◌&&◌}
+use mathlib.Core.Bool.{Bool, true, false, cond}
 use mathlib.Core.List.{List, [], ◌∷◌, map}
-use mathlib.Core.Option.{some}
 use Prim.Native.Nat.{ℕ, suc, ◌≤◌}
 use native.Mathlib.Omega.{arith}
 use lib.ListN.{length}
@@ -16,20 +17,20 @@ use Rattle.turn_state.specs.Source.{same_ip, for_ip, is_due}
 
 module _ {R : Type 0} (is : R → Bool) where
   -- what is found is under its key
-  found_step : (x r : R) (l : List R) (b : Bool) → is x ≡ b → (get is l ≡ some r → is r ≡ true) → cond b (some x) (get is l) ≡ some r → is r ≡ true
+  found_step : (x r : R) (l : List R) (b : Bool) → is x ≡ b → (get is l ≡ Some r → is r ≡ true) → cond b (Some x) (get is l) ≡ Some r → is r ≡ true
   found_step x r l true h rest k = let same : x ≡ r = cc in cc
   found_step x r l false h rest k = rest k
 
-  pub found_is : (l : List R) (r : R) → get is l ≡ some r → is r ≡ true
+  pub found_is : (l : List R) (r : R) → get is l ≡ Some r → is r ≡ true
   found_is [] r e = let z : ◌≡◌ {A = Bool} true false = cc in cc
   found_is (x ∷ l) r e = found_step x r l (is x) refl (found_is l r) e
 
   -- what is put is found
-  get_step : (x y : R) (l : List R) (b : Bool) → is x ≡ true → is y ≡ b → get is (insert is x l) ≡ some x → get is (cond b (x ∷ l) (y ∷ insert is x l)) ≡ some x
+  get_step : (x y : R) (l : List R) (b : Bool) → is x ≡ true → is y ≡ b → get is (insert is x l) ≡ Some x → get is (cond b (x ∷ l) (y ∷ insert is x l)) ≡ Some x
   get_step x y l true h k rest = rw h
   get_step x y l false h k rest = rw k rest
 
-  pub get_insert : (x : R) (l : List R) → is x ≡ true → get is (insert is x l) ≡ some x
+  pub get_insert : (x : R) (l : List R) → is x ≡ true → get is (insert is x l) ≡ Some x
   get_insert x [] h = rw h
   get_insert x (y ∷ l) h = get_step x y l (is y) h refl (get_insert x l h)
 
@@ -42,7 +43,7 @@ module _ {R : Type 0} (is : R → Bool) where
   length-insert x [] = omega arith
   length-insert x (y ∷ l) = insert_step x y l (is y) (length-insert x l)
 
-  remove_step : (x r : R) (l : List R) (b : Bool) → (get is l ≡ some r → suc (length (remove is l)) ≡ length l) → cond b (some x) (get is l) ≡ some r
+  remove_step : (x r : R) (l : List R) (b : Bool) → (get is l ≡ Some r → suc (length (remove is l)) ≡ length l) → cond b (Some x) (get is l) ≡ Some r
       → suc (length (cond b l (x ∷ remove is l))) ≡ suc (length l)
   remove_step x r l true rest k = refl
   remove_step x r l false rest k = ap suc (rest k)
@@ -55,15 +56,9 @@ module _ {R : Type 0} (is : R → Bool) where
   remove_short [] = omega arith
   remove_short (x ∷ l) = shorter_step x l (is x) (remove_short l)
 
-  pub length-remove : (r : R) (l : List R) → get is l ≡ some r → suc (length (remove is l)) ≡ length l
+  pub length-remove : (r : R) (l : List R) → get is l ≡ Some r → suc (length (remove is l)) ≡ length l
   length-remove r [] e = let z : ◌≡◌ {A = Bool} true false = cc in let q : ◌≡◌ {A = ℕ} 0 1 = cc in omega arith
   length-remove r (x ∷ l) e = remove_step x r l (is x) (length-remove r l) e
-
--- both parts of a conjunction
-pub both : (a b : Bool) → (a && b) ≡ true → (a ≡ true) × (b ≡ true)
-both true true e = (refl, refl)
-both true false e = let z : ◌≡◌ {A = ℕ} 0 1 = cc in (cc, cc)
-both false b e = let z : ◌≡◌ {A = ℕ} 0 1 = cc in (cc, cc)
 
 -- two addresses that are the same are equal
 pub same_ip_eq : (a b : Ip) → same_ip a b ≡ true → a ≡ b
@@ -71,7 +66,7 @@ same_ip_eq (V4 x) (V4 y) e = ap V4 (eqb-true x y e)
 same_ip_eq (V4 x) (V6 h l) e = let q : ◌≡◌ {A = ℕ} 0 1 = cc in cc
 same_ip_eq (V6 h l) (V4 y) e = let q : ◌≡◌ {A = ℕ} 0 1 = cc in cc
 same_ip_eq (V6 h l) (V6 k m) e =
-    let parts = both (eqb h k) (eqb l m) e in rw (eqb-true h k parts.0, eqb-true l m parts.1)
+    let parts = and_parts (eqb h k) (eqb l m) e in rw (eqb-true h k parts.0, eqb-true l m parts.1)
 
 pub same_ip_refl : (a : Ip) → same_ip a a ≡ true
 same_ip_refl (V4 x) = eq-eqb x x refl

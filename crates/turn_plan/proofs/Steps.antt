@@ -1,8 +1,8 @@
 -- Step by step, the run that a plan stands for is the run of the definition.
+use Rattle.std.specs.Prelude.{Option, None, Some}
 use mathlib.Core.Path.{◌≡◌, refl, ap, sym, subst, ◌∙◌}
 use mathlib.Core.Bool.{Bool, true, false, cond, ◌&&◌, ◌||◌, not, or-false, or_assoc, and-false}
-use mathlib.Core.List.{List, [], ◌∷◌, ◌++◌, map, append_assoc, append-nil}
-use mathlib.Core.Option.{Option, none, some}
+use mathlib.Core.List.{List, [], ◌∷◌, ◌++◌, map-append, append_assoc, append-nil}
 use Prim.Native.Nat.{ℕ, ◌≤◌}
 use native.Mathlib.Omega.{arith}
 use lib.ListN.{length, length-append, replicate-append-replicate}
@@ -32,10 +32,6 @@ pub length-drawn : (lent : List ℕ) (ks : List Kind) → length (Follows.drawn 
 length-drawn lent [] = refl
 length-drawn lent (k ∷ ks) = let rest = length-drawn lent ks in rw length-append (omega arith)
 
-map_snoc : {A B : Type 0} (f : A → B) (l : List A) (x : A) → map f (l ++ (x ∷ [])) ≡ map f l ++ (f x ∷ [])
-map_snoc f [] x = refl
-map_snoc f (y ∷ l) x = ap (λ (r : List _). f y ∷ r) (map_snoc f l x)
-
 -- the run with other additions reported
 abbrev pub with_added : List Added → Run → Run
 with_added a s =
@@ -60,7 +56,7 @@ ask_run : (c : Turn) (now : ℕ) (lent : List ℕ) (p : Plan.Plan) (added : List
     → Source.request now kind (message_of kind (new_tid (Follows.run_of c now lent p added)) (new_tid (Follows.run_of c now lent p added))) (drew (Follows.run_of c now lent p added))
     ≡ Follows.run_of c now lent (Plan.asking kind p) (grown (contains (Source.under_drawn (id_at lent (length p.kinds))) (Follows.requested (Follows.first_next c now) lent p.kinds p.txns)) 64 (length (Follows.requested (Follows.first_next c now) lent p.kinds p.txns)) added)
 unfolding Source.request Source.insert_txn
-ask_run c now lent p added kind = rw (length-drawn lent p.kinds, add_is, ← append_assoc, map_snoc)
+ask_run c now lent p added kind = rw (length-drawn lent p.kinds, add_is, ← append_assoc) (simp map-append)
 
 pub grown_full : (b : Bool) (room n : ℕ) (a : List Added) → full (grown b room n a) ≡ (full a || (not b && leb room n))
 grown_full true room n a = sym (or-false (full a))
@@ -87,10 +83,10 @@ module _ (other : Bool) (c : Turn) (now : ℕ) (lent : List ℕ) where
   bind_step : (peer : Address) (p : Plan.Plan) (s : Run) (o : Option Chan) → get (Source.for_peer peer) p.chans ≡ o → RunsFull p s
       → RunsFull (if_let o (λ ch. Plan.asking (ChannelBind peer ch.num) p) p) (Source.bind_channel now peer s)
   unfolding Source.bind_channel
-  bind_step peer p s none e f =
-      let k : get (Source.for_peer peer) s.self.chans ≡ none = ap (λ (r : Run). get (Source.for_peer peer) r.self.chans) f.run ∙ e in rw k f
-  bind_step peer p s (some ch) e f =
-      let k : get (Source.for_peer peer) s.self.chans ≡ some ch = ap (λ (r : Run). get (Source.for_peer peer) r.self.chans) f.run ∙ e in
+  bind_step peer p s None e f =
+      let k : get (Source.for_peer peer) s.self.chans ≡ None = ap (λ (r : Run). get (Source.for_peer peer) r.self.chans) f.run ∙ e in rw k f
+  bind_step peer p s (Some ch) e f =
+      let k : get (Source.for_peer peer) s.self.chans ≡ Some ch = ap (λ (r : Run). get (Source.for_peer peer) r.self.chans) f.run ∙ e in
       rw k (ask_full p s (ChannelBind peer ch.num) f)
 
   binds_follow : (peers : List Address) (p : Plan.Plan) (s : Run) → RunsFull p s → RunsFull (each Plan.plan_bind peers p) (each (Source.bind_channel now) peers s)
@@ -117,17 +113,17 @@ module _ (c : Turn) (now : ℕ) (lent : List ℕ) where
   unfolding Plan.plan_refresh Source.poll_refresh
   refresh_follows p s f =
       let q = Plan.no_refresh p in
-      let g : Runs q (on_self (set_refresh_at none) s) = record { added = f.added; run = rw f.run; met = f.met; small = f.small } in
+      let g : Runs q (on_self (set_refresh_at None) s) = record { added = f.added; run = rw f.run; met = f.met; small = f.small } in
       let e : Source.is_due now s.self.refresh_at ≡ Source.is_due now p.refresh_at = ap (λ (r : Run). Source.is_due now r.self.refresh_at) f.run in
       rw e (choose_follows (Source.is_due now p.refresh_at) (Plan.asking (Refresh 600) q) p
-      (Source.request now (Refresh 600) (Source.refresh_message 600 (new_tid s)) (drew (on_self (set_refresh_at none) s))) s
-      (ask_follows q (on_self (set_refresh_at none) s) (Refresh 600) g) f)
+      (Source.request now (Refresh 600) (Source.refresh_message 600 (new_tid s)) (drew (on_self (set_refresh_at None) s))) s
+      (ask_follows q (on_self (set_refresh_at None) s) (Refresh 600) g) f)
 
   -- a permission that is there is asked for again
   perm_follows : (ip : Ip) (p : Plan.Plan) (s : Run) → contains (Source.for_ip ip) p.perms ≡ true → Runs p s → Runs (Plan.plan_perm ip p) (Source.create_permission now ip s)
   unfolding Plan.plan_perm Source.create_permission Source.insert_perm
   perm_follows ip p s there f =
-      let x : Perm = record { ip = ip; refresh = none } in
+      let x : Perm = record { ip = ip; refresh = None } in
       let q = Plan.with_perms (insert (Source.for_ip ip) x p.perms) p in
       let g : Runs q (Source.insert_perm x s) = record { added = f.added; run = rw (f.run, there); met = f.met; small = f.small } in
       rw there (ask_follows q (Source.insert_perm x s) (Permission ip) g)
@@ -139,7 +135,7 @@ module _ (c : Turn) (now : ℕ) (lent : List ℕ) where
   perms_follow (ip ∷ ips) p s h f =
       let there = h.0 in
       perms_follow ips (Plan.plan_perm ip p) (Source.create_permission now ip s)
-      (rw there (held_insert ips (record { ip = ip; refresh = none }) p.perms h.1)) (perm_follows ip p s there f)
+      (rw there (held_insert ips (record { ip = ip; refresh = None }) p.perms h.1)) (perm_follows ip p s there f)
 
   poll_perms_follow : (p : Plan.Plan) (s : Run) → Runs p s → Runs (Plan.plan_perms now p) (Source.poll_perms now s)
   unfolding Source.poll_perms
@@ -152,11 +148,11 @@ module _ (c : Turn) (now : ℕ) (lent : List ℕ) where
   chan_step : (peer : Address) (p : Plan.Plan) (s : Run) (o : Option Chan) → get (Source.for_peer peer) p.chans ≡ o → Runs p s
       → Runs (if_let o (λ ch. Plan.renewing now peer ch p) p) (Source.renew_channel now peer s)
   unfolding Source.bind_channel
-  chan_step peer p s none e f =
-      let k : get (Source.for_peer peer) s.self.chans ≡ none = ap (λ (r : Run). get (Source.for_peer peer) r.self.chans) f.run ∙ e in rw (k, k) f
-  chan_step peer p s (some ch) e f =
+  chan_step peer p s None e f =
+      let k : get (Source.for_peer peer) s.self.chans ≡ None = ap (λ (r : Run). get (Source.for_peer peer) r.self.chans) f.run ∙ e in rw (k, k) f
+  chan_step peer p s (Some ch) e f =
       let is = Source.for_peer peer in
-      let k : get is s.self.chans ≡ some ch = ap (λ (r : Run). get is r.self.chans) f.run ∙ e in
+      let k : get is s.self.chans ≡ Some ch = ap (λ (r : Run). get is r.self.chans) f.run ∙ e in
       let new = Source.renewed_at now ch in
       let q = Plan.with_chans (insert is new p.chans) p in
       let s₁ = on_self (set_chans (insert is new s.self.chans)) s in
@@ -195,7 +191,7 @@ module _ (c : Turn) (now : ℕ) (lent : List ℕ) where
       let there = contains (Source.under_drawn t.msg.tid) p.txns in
       record {
         added = grown there 64 (length p.txns) f.added;
-        run = rw (f.run, add_is) (simp (append-nil, map_snoc));
+        run = rw (f.run, add_is) (simp (append-nil, map-append));
         met = rw (grown_full there 64 (length p.txns) f.added, f.met, lt-leb 64 (length p.txns) (omega arith)) (and-false (not there));
         small = omega (arith, length-insert (Source.under_drawn t.msg.tid) (Source.repeated now t) p.txns);
       }
@@ -207,11 +203,11 @@ module _ (c : Turn) (now : ℕ) (lent : List ℕ) where
   due_step : (tid : List ℕ) (p : Plan.Plan) (s : Run) (o : Option Txn) → get (Source.under_id tid) p.txns ≡ o → Runs (none_yet p) s
       → Runs (none_yet (if_let o (λ t. Plan.settle_due now c.reliable t (Plan.with_txns (remove (Source.under_id tid) p.txns) p)) p)) (Source.poll_due now tid s)
   unfolding Source.poll_due
-  due_step tid p s none e f =
-      let k : get (Source.under_id tid) s.self.txns ≡ none = ap (λ (r : Run). get (Source.under_id tid) r.self.txns) f.run ∙ e in rw k f
-  due_step tid p s (some t) e f =
+  due_step tid p s None e f =
+      let k : get (Source.under_id tid) s.self.txns ≡ None = ap (λ (r : Run). get (Source.under_id tid) r.self.txns) f.run ∙ e in rw k f
+  due_step tid p s (Some t) e f =
       let is = Source.under_id tid in
-      let k : get is s.self.txns ≡ some t = ap (λ (r : Run). get is r.self.txns) f.run ∙ e in
+      let k : get is s.self.txns ≡ Some t = ap (λ (r : Run). get is r.self.txns) f.run ∙ e in
       let r : s.self.reliable ≡ c.reliable = ap (λ (r : Run). r.self.reliable) f.run in
       let shorter = length-remove is t p.txns e in
       let q = Plan.with_txns (remove is p.txns) p in
@@ -244,8 +240,8 @@ settled_kinds false kind p q e = e
 
 step_kinds : (now : ℕ) (reliable : Bool) (tid : List ℕ) (p : Plan.Plan) (o : Option Txn)
     → (if_let o (λ t. Plan.settle_due now reliable t (Plan.with_txns (remove (Source.under_id tid) p.txns) p)) p).kinds ≡ p.kinds
-step_kinds now reliable tid p none = refl
-step_kinds now reliable tid p (some t) =
+step_kinds now reliable tid p None = refl
+step_kinds now reliable tid p (Some t) =
     let q = Plan.with_txns (remove (Source.under_id tid) p.txns) p in
     settled_kinds (reliable || leb Source.MAX_TRIES t.tries) t.kind q (Plan.sent_again now t q) refl
 

@@ -1,5 +1,7 @@
 -- What the code's draft means as a plan, and when it is tidy.
-use Rattle.std.specs.Prelude.{◌≡◌, Bool, cond, List, [], map, reverse, ℕ, ◌+◌, ◌≤◌, take, leb}
+use Rattle.std.specs.Prelude.{◌≡◌, cond, List, map, reverse, ℕ, ◌+◌, ◌≤◌, take, leb, Option, Some, None}
+use Rattle.stun_address.specs.declared.Ip.{Ip}
+use Rattle.turn_state.specs.declared.Client.{Client}
 use Rattle.turn_state.specs.declared.Kind.{Kind}
 use Rattle.turn_state.specs.declared.Request.{Request}
 use Rattle.turn_state.specs.declared.Requests.{Requests}
@@ -7,22 +9,18 @@ use Rattle.turn_state.specs.declared.Permissions.{Permissions}
 use Rattle.turn_state.specs.declared.Channels.{Channels}
 use Rattle.turn_state.specs.State.{Message}
 use Rattle.turn_state.specs.Source.{under_id}
-use Rattle.turn_state.specs.View.{kind_in, txn_in, txns_in, perms_in, chans_in, held, absent, TidyRequests, TidyPermissions, TidyChannels}
+use Rattle.turn_state.specs.View.{kind_in, txn_in, txns_in, perms_in, chans_in, view, TidyRequests, TidyPermissions, TidyChannels}
 use Rattle.turn_tables.specs.declared.Id.{Id}
-use Rattle.turn_tables.specs.declared.Position.{Position}
-use Rattle.turn_tables.specs.declared.Position.TheVariants.{At, Nowhere}
 use Rattle.turn_tables.specs.Rows.{position}
 use Rattle.turn_tables.specs.Tables.{pushed_request, put_request}
 use Rattle.turn_state.specs.declared.Asks.{Asks}
 use Rattle.turn_plan.specs.declared.Draft.{Draft}
-use Rattle.turn_plan.specs.declared.Refreshing.{Refreshing}
-use Rattle.stun_address.specs.declared.Ip.{Ip}
-use Rattle.turn_plan.specs.Plan.{Plan, planned_from, plan_binds}
+use Rattle.turn_plan.specs.Plan.{Plan, entry, planned, plan_binds}
 
 -- a request over the one at its place, or last
-abbrev pub insert_at : Position → Requests → Request → Requests
-insert_at (At i) t row = put_request t i row
-insert_at Nowhere t row = pushed_request t row
+abbrev pub insert_at : Option ℕ → Requests → Request → Requests
+insert_at (Some i) t row = put_request t i row
+insert_at None t row = pushed_request t row
 
 unfoldable pub inserted : Requests → Request → Requests
 inserted t row = insert_at (position (under_id row.id) (txns_in t)) t row
@@ -42,7 +40,7 @@ plan_in d =
       perms = perms_in d.permissions;
       chans = chans_in d.channels;
       done = d.done;
-      refresh_at = held d.has_refresh d.refresh_at;
+      refresh_at = d.refresh;
       sends = messages_in d.sends;
       kinds = kinds_in d.asks;
       timeouts = d.timeouts;
@@ -54,25 +52,21 @@ id_bytes i = i.bytes
 
 -- assignments to the draft's fields
 abbrev pub set_requests : Requests → Draft → Draft
-set_requests x d = record { requests = x; permissions = d.permissions; channels = d.channels; sends = d.sends; asks = d.asks; timeouts = d.timeouts; refresh_at = d.refresh_at; has_refresh = d.has_refresh; done = d.done }
+set_requests x d = record { requests = x; permissions = d.permissions; channels = d.channels; sends = d.sends; asks = d.asks; timeouts = d.timeouts; refresh = d.refresh; done = d.done }
 
 abbrev pub set_permissions : Permissions → Draft → Draft
-set_permissions x d = record { requests = d.requests; permissions = x; channels = d.channels; sends = d.sends; asks = d.asks; timeouts = d.timeouts; refresh_at = d.refresh_at; has_refresh = d.has_refresh; done = d.done }
+set_permissions x d = record { requests = d.requests; permissions = x; channels = d.channels; sends = d.sends; asks = d.asks; timeouts = d.timeouts; refresh = d.refresh; done = d.done }
 
 abbrev pub set_channels : Channels → Draft → Draft
-set_channels x d = record { requests = d.requests; permissions = d.permissions; channels = x; sends = d.sends; asks = d.asks; timeouts = d.timeouts; refresh_at = d.refresh_at; has_refresh = d.has_refresh; done = d.done }
+set_channels x d = record { requests = d.requests; permissions = d.permissions; channels = x; sends = d.sends; asks = d.asks; timeouts = d.timeouts; refresh = d.refresh; done = d.done }
 
 abbrev pub set_sends : Requests → Draft → Draft
-set_sends x d = record { requests = d.requests; permissions = d.permissions; channels = d.channels; sends = x; asks = d.asks; timeouts = d.timeouts; refresh_at = d.refresh_at; has_refresh = d.has_refresh; done = d.done }
-
-abbrev pub set_asks : Asks → Draft → Draft
-set_asks x d = record { requests = d.requests; permissions = d.permissions; channels = d.channels; sends = d.sends; asks = x; timeouts = d.timeouts; refresh_at = d.refresh_at; has_refresh = d.has_refresh; done = d.done }
+set_sends x d = record { requests = d.requests; permissions = d.permissions; channels = d.channels; sends = x; asks = d.asks; timeouts = d.timeouts; refresh = d.refresh; done = d.done }
 
 pub record TidyDraft (d : Draft) : Type 0 where
   pub requests : TidyRequests d.requests
   pub permissions : TidyPermissions d.permissions
   pub channels : TidyChannels d.channels
-  pub no_refresh : absent d.has_refresh 0 d.refresh_at
 
 -- from the draft `d` the code made `r`, which means `due`; tables that were tidy are, where `given` holds of what was put there; and
 -- what is sent again and what is asked for grew by no more than `sent` and `asked`
@@ -83,38 +77,23 @@ pub record Drafts (given : Type 0) (sent asked : ℕ) (d : Draft) (due : Plan) (
   pub few_timeouts : r.timeouts ≤ d.timeouts + sent
   pub few_asks : r.asks.len ≤ d.asks.len + asked
 
--- the plan at entry, from a client's parts
-abbrev pub entry_of : Requests → Permissions → Channels → Refreshing → Plan
-entry_of requests permissions channels refresh =
-    record {
-      txns = txns_in requests;
-      perms = perms_in permissions;
-      chans = chans_in channels;
-      done = refresh.done;
-      refresh_at = held refresh.held refresh.at;
-      sends = [];
-      kinds = [];
-      timeouts = 0;
-    }
-
--- from them the code made `r`, which means `due`, with no more than so many requests that are sent again or timed out, and asked for
-pub record From (requests : Requests) (permissions : Permissions) (channels : Channels) (refresh : Refreshing) (due : Plan) (sent asked : ℕ) (r : Draft) : Type 0 where
+-- from a client the code made `r`, which means `due`, with no more than so many requests that are sent again or timed out, and asked for
+pub record From (client : Client) (due : Plan) (sent asked : ℕ) (r : Draft) : Type 0 where
   pub means : plan_in r ≡ due
-  pub tidy : TidyRequests requests → TidyPermissions permissions → TidyChannels channels → absent refresh.held 0 refresh.at → TidyDraft r
+  pub tidy : TidyRequests client.requests → TidyPermissions client.permissions → TidyChannels client.channels → TidyDraft r
   pub few_sends : r.sends.len ≤ sent
   pub few_timeouts : r.timeouts ≤ sent
   pub few_asks : r.asks.len ≤ asked
 
-abbrev pub Begins : Requests → Permissions → Channels → Refreshing → Draft → Type 0
-Begins requests permissions channels refresh r = From requests permissions channels refresh (entry_of requests permissions channels refresh) 0 0 r
+abbrev pub Begins : Client → Draft → Type 0
+Begins client r = From client (entry (view client)) 0 0 r
 
--- what the code plans for them; above the limit of times it plans nothing
-abbrev pub Plans : Requests → Permissions → Channels → Refreshing → ℕ → Bool → Bool → Draft → Type 0
-Plans requests permissions channels refresh now reliable closing r =
-    let p = entry_of requests permissions channels refresh in
-    From requests permissions channels refresh (cond (leb now 9007199254740991) (planned_from now reliable closing p) p) 64 65 r
+-- what the code plans for it; above the limit of times it plans nothing
+abbrev pub Plans : Client → ℕ → Draft → Type 0
+Plans client now r =
+    From client (cond (leb now 9007199254740991) (planned now (view client)) (entry (view client))) 64 65 r
 
--- the draft of a permission's success, from the tables in which its request is gone and it is granted
-abbrev pub Binds : Requests → Permissions → Channels → Refreshing → Ip → Draft → Type 0
-Binds requests permissions channels refresh ip r =
-    From requests permissions channels refresh (plan_binds ip (entry_of requests permissions channels refresh)) 0 32 r
+-- what it binds after a permission's success, from tables of their own
+abbrev pub Binds : Client → Requests → Permissions → Ip → Draft → Type 0
+Binds client requests permissions ip r =
+    (b : Draft) × Begins client b × Drafts (Unit {0}) 0 32 (set_requests requests (set_permissions permissions b)) (plan_binds ip (plan_in (set_requests requests (set_permissions permissions b)))) r

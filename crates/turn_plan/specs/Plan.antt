@@ -1,7 +1,6 @@
 -- What a poll, or the success of a permission, comes to before an id is drawn and a byte written: the tables after the due requests,
 -- what is sent again, and what is to be asked for. It has the definition's steps, without ids, packets and report.
-use Rattle.std.specs.Prelude.{Bool, true, cond, ◌&&◌, ◌||◌, List, [], ◌∷◌, ◌++◌, map, ℕ, ◌+◌, leb}
-use Rattle.std.proofs.Math.Option.{Option, none, some}
+use Rattle.std.specs.Prelude.{Bool, true, cond, ◌&&◌, ◌||◌, List, [], ◌∷◌, ◌++◌, map, ℕ, ◌+◌, leb, Option, None, Some}
 use Rattle.stun_address.specs.declared.Ip.{Ip}
 use Rattle.stun_address.specs.declared.Address.{Address}
 use Rattle.turn_state.specs.declared.Kind.{Kind}
@@ -63,14 +62,14 @@ abbrev pub asking : Kind → Plan → Plan
 asking k p = record { txns = p.txns; perms = p.perms; chans = p.chans; done = p.done; refresh_at = p.refresh_at; sends = p.sends; kinds = k ∷ p.kinds; timeouts = p.timeouts }
 
 abbrev pub no_refresh : Plan → Plan
-no_refresh p = record { txns = p.txns; perms = p.perms; chans = p.chans; done = p.done; refresh_at = none; sends = p.sends; kinds = p.kinds; timeouts = p.timeouts }
+no_refresh p = record { txns = p.txns; perms = p.perms; chans = p.chans; done = p.done; refresh_at = None; sends = p.sends; kinds = p.kinds; timeouts = p.timeouts }
 
 unfoldable pub plan_refresh : ℕ → Plan → Plan
 plan_refresh now p = cond (is_due now p.refresh_at) (asking (Refresh 600) (no_refresh p)) p
 
 -- a permission that is there is asked for again
 abbrev pub asked_again : Ip → Plan → Plan
-asked_again ip p = asking (Permission ip) (with_perms (insert (for_ip ip) (record { ip = ip; refresh = none }) p.perms) p)
+asked_again ip p = asking (Permission ip) (with_perms (insert (for_ip ip) (record { ip = ip; refresh = None }) p.perms) p)
 
 unfoldable pub plan_perm : Ip → Plan → Plan
 plan_perm ip p = cond (contains (for_ip ip) p.perms) (asked_again ip p) p
@@ -124,7 +123,7 @@ plan_binds ip p = each plan_bind (waiting_peers ip p.chans) p
 
 -- the success of the permission for which the request of that id asked
 abbrev pub granting : ℕ → Ip → List Perm → List Perm
-granting now ip perms = insert (for_ip ip) (record { ip = ip; refresh = some (now + PERMISSION_REFRESH) }) perms
+granting now ip perms = insert (for_ip ip) (record { ip = ip; refresh = Some (now + PERMISSION_REFRESH) }) perms
 
 abbrev pub plan_success : ℕ → List ℕ → Ip → Turn → Plan
 plan_success now id ip c = plan_binds ip (with_perms (granting now ip c.perms) (with_txns (remove (under_id id) c.txns) (entry c)))

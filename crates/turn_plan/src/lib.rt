@@ -4,28 +4,27 @@
 // of its IP is to be bound.
 #![tactic(auto)]
 
-ghost use Rattle.std.specs.Prelude.{◌≡◌, map, take, ◌+◌, ◌-◌, ◌*◌, ◌^◌, ◌≤◌, ◌<◌, min};
+ghost use Rattle.std.specs.Prelude.{◌≡◌, map, length, cond, ◌+◌, ◌-◌, ◌*◌, ◌^◌, ◌≤◌, ◌<◌, min};
 ghost use Rattle.turn_state.specs.Maps.{each};
-ghost use Rattle.turn_state.specs.State.{Turn};
 ghost use Rattle.turn_state.specs.Source.{RTO};
-ghost use Rattle.turn_state.specs.View.{kind_in, ip_in, address_in, txn_in, view, TidyRequest};
-ghost use Rattle.turn_plan.specs.Plan.{failed, sent_again, plan_due, asking, plan_refresh, plan_perm, plan_chan, planned_from, plan_bind};
-ghost use Rattle.turn_plan.specs.Draft.{inserted, plan_in, id_bytes as «bytes_of», Drafts, Begins, Plans, Binds};
+ghost use Rattle.turn_state.specs.View.{view, ip_in, address_in, txn_in, TidyRequest};
+ghost use Rattle.turn_plan.specs.Plan.{failed, sent_again, plan_due, asking, plan_refresh, plan_perm, plan_chan, planned_from, plan_bind, plan_binds, entry};
+ghost use Rattle.turn_plan.specs.Draft.{inserted, plan_in, id_bytes as «bytes_of», Drafts, From, Begins, Plans, Binds};
 
 use stun_address::{Address, Ip};
 use turn_open::no_requests;
 use turn_state::{
-    Asked, Asks, Channel, Channels, Client, Host, Kind, Permission, Permissions, Place, Request,
-    Requests, address_of, asked_of, host_of, ip_of, kind_of,
+    Asked, Asks, Channels, Client, Host, Kind, Permission, Permissions, Place, Request, Requests,
 };
 use turn_tables::{
-    Hosts, Ids, Places, Position, due_channels, due_permissions, due_requests, find_channel,
-    find_permission, find_request, push_request, put_channel, put_permission, put_request,
-    remove_channel, remove_permission, remove_request, waiting_channels,
+    Id, due_channels, due_permissions, due_requests, find_channel, find_permission, find_request,
+    push_request, put_channel, put_permission, put_request, remove_channel, remove_permission,
+    remove_request, waiting_channels,
 };
 
-// The tables as the poll leaves them but for what is still to be asked for; the requests that are sent again, in order; what is to be
-// asked for; and how many allocations timed out.
+// The tables as the call leaves them but for what is still to be asked for; the requests that are sent again, in order; what is to be
+// asked for; how many allocations timed out; when the allocation is to be refreshed; and whether the first allocation has been
+// answered.
 #[derive(Clone, Copy)]
 pub struct Draft {
     pub requests: Requests,
@@ -34,29 +33,31 @@ pub struct Draft {
     pub sends: Requests,
     pub asks: Asks,
     pub timeouts: usize,
-    pub refresh_at: u64,
-    pub has_refresh: bool,
-    pub done: bool,
-}
-
-// When the allocation is to be refreshed, where that is held, and whether the first allocation has been answered.
-#[derive(Clone, Copy)]
-pub struct Refreshing {
-    pub at: u64,
-    pub held: bool,
+    pub refresh: Option<u64>,
     pub done: bool,
 }
 
 // A request under its id: over the one that is there, or last.
+#[tactic(auto, unfolding(crate::specs::Draft::inserted))]
 pub fn insert_request(t: Requests, row: Request) -> Requests
     ensures { result ≡ inserted t row }
 {
-    let id = row.id;
-    match find_request(t, id) {
-        Position::At(i) => put_request(t, i, row),
-        Position::Nowhere => push_request(t, row),
+    match find_request(t, row.id) {
+        Some(i) => put_request(t, i, row),
+        None => push_request(t, row),
     }
 }
+
+// When a request that is made now is due. No sum wraps: a time that no call has stops at the greatest number.
+pub fn first_next(now: u64, reliable: bool) -> u64
+    ensures value { result ≡ min (now + cond reliable 39500 500) 18446744073709551615 }
+    ensures of_a_call { now ≤ 9007199254740991 → result ≡ now + cond reliable 39500 500 }
+{
+    now.saturating_add(if reliable { 39500 } else { 500 })
+}
+
+// The latest time of a call.
+pub const LATEST: u64 = 9007199254740991;
 
 const LONGEST_WAIT: u64 = 4000;
 
@@ -64,337 +65,293 @@ const LONGEST_WAIT: u64 = 4000;
 fn wait(tries: u32) -> u64
     ensures { (result ≡ RTO * min (2 ^ (tries + 1 - 1)) 8) × (result ≤ 4000) }
 {
-    if tries == 0 {
-        return 500;
+    match tries {
+        0 => 500,
+        1 => 1000,
+        2 => 2000,
+        _ => LONGEST_WAIT,
     }
-    if tries == 1 {
-        return 1000;
-    }
-    if tries == 2 {
-        return 2000;
-    }
-    LONGEST_WAIT
 }
 
-// A request that timed out: what `on_failure` does.
-fn fail(d: Draft, asked: Asked) -> Draft
-    requires { d.timeouts ≤ 64 }
-    ensures { Drafts (Unit {0}) 1 0 d (failed (kind_in asked) (plan_in d)) result }
+// The plan of a poll. A time above the limit plans nothing.
+#[tactic(auto, using(crate::proofs::Drafting::plans_nothing, crate::proofs::Drafting::plans_all))]
+pub fn plan(client: &Client, now: u64) -> Draft
+    ensures { Plans client.now now result }
 {
-    let mut next = d;
-    match kind_of(asked) {
-        Kind::Allocate => {
-            next.done = true;
-            next.timeouts = d.timeouts + 1;
-            next
+    let draft = Draft::of(client);
+    if LATEST < now {
+        return draft;
+    }
+    draft.run(now, client.reliable, client.closing)
+}
+
+// By value: behind a `&mut` a proof does not know the lengths of the tables' arrays.
+impl Draft {
+    // What a start comes to: nothing but what is to be asked for.
+    #[tactic(auto, using(crate::proofs::Drafting::asked_first))]
+    pub fn asking(client: &Client, kind: Kind) -> Draft
+        ensures { From client.now (asking kind (entry (view client.now))) 0 1 result }
+    {
+        Draft::of(client).ask(kind)
+    }
+
+    // What a permission's success comes to, from the tables in which its request is gone and it is granted: every unbound channel of
+    // its IP is to be bound.
+    pub fn binding(client: &Client, requests: Requests, permissions: Permissions, ip: Ip) -> Draft
+        ensures { Binds client.now requests permissions ip result }
+    {
+        let draft = Draft {
+            requests,
+            permissions,
+            ..Draft::of(client)
+        };
+        draft.bind_waiting(ip)
+    }
+
+    // What a call begins with: the client's tables, and nothing to do.
+    fn of(client: &Client) -> Draft
+        ensures { Begins client.now result }
+    {
+        Draft {
+            requests: client.requests,
+            permissions: client.permissions,
+            channels: client.channels,
+            sends: no_requests(),
+            asks: Asks {
+                rows: [Asked::from(Kind::Allocate); 65],
+                len: 0,
+            },
+            timeouts: 0,
+            refresh: client.has_refresh.then_some(client.refresh_at),
+            done: client.done,
         }
-        Kind::Refresh(_) => next,
-        Kind::Permission(ip) => {
-            let table = d.permissions;
-            match find_permission(table, ip) {
-                Position::At(i) => {
-                    let less = remove_permission(table, i);
-                    next.permissions = less;
-                    next
-                }
-                Position::Nowhere => next,
-            }
+    }
+
+    // Something to be asked for, last.
+    fn ask(mut self, kind: Kind) -> Draft
+        requires { self.asks.len < 65 }
+        ensures { Drafts (Unit {0}) 0 1 self (asking kind (plan_in self)) result }
+    {
+        self.asks.rows[self.asks.len] = Asked::from(kind);
+        self.asks.len += 1;
+        self
+    }
+
+    // A request that timed out: what `on_failure` does.
+    fn fail(self, kind: Kind) -> Draft
+        requires { self.timeouts ≤ 64 }
+        ensures { Drafts (Unit {0}) 1 0 self (failed kind (plan_in self)) result }
+    {
+        match kind {
+            Kind::Allocate => Draft {
+                done: true,
+                timeouts: self.timeouts + 1,
+                ..self
+            },
+            Kind::Refresh(_) => self,
+            Kind::Permission(ip) => match find_permission(self.permissions, ip) {
+                Some(i) => Draft {
+                    permissions: remove_permission(self.permissions, i),
+                    ..self
+                },
+                None => self,
+            },
+            Kind::ChannelBind(peer, _) => match find_channel(self.channels, peer) {
+                Some(i) => Draft {
+                    channels: remove_channel(self.channels, i),
+                    ..self
+                },
+                None => self,
+            },
         }
-        Kind::ChannelBind(peer, _) => {
-            let table = d.channels;
-            match find_channel(table, peer) {
-                Position::At(i) => {
-                    let less = remove_channel(table, i);
-                    next.channels = less;
-                    next
-                }
-                Position::Nowhere => next,
-            }
+    }
+
+    // A request that is sent again, once it is out of its table: it goes last.
+    fn again(self, row: Request, now: u64) -> Draft
+        requires { (self.requests.len < 64) × (self.sends.len < 64) × (row.tries < 6) × (now ≤ 9007199254740991) }
+        ensures { Drafts (TidyRequest row) 1 0 self (sent_again now (txn_in row) (plan_in self)) result }
+    {
+        let later = Request {
+            tries: row.tries + 1,
+            next: now + wait(row.tries),
+            ..row
+        };
+        Draft {
+            requests: insert_request(self.requests, later),
+            sends: push_request(self.sends, row),
+            ..self
         }
     }
-}
 
-// A request that is sent again, once it is out of its table: it goes last.
-fn again(d: Draft, row: Request, now: u64) -> Draft
-    requires { (d.requests.len < 64) × (d.sends.len < 64) × (row.tries < 6) × (now ≤ 9007199254740991) }
-    ensures { Drafts (TidyRequest row) 1 0 d (sent_again now (txn_in row) (plan_in d)) result }
-{
-    let mut next = d;
-    let mut later = row;
-    later.tries = row.tries + 1;
-    later.next = now + wait(row.tries);
-    let requests = d.requests;
-    let sends = d.sends;
-    let kept = insert_request(requests, later);
-    let sent = push_request(sends, row);
-    next.requests = kept;
-    next.sends = sent;
-    next
-}
-
-// One request that was due at entry.
-fn due_one(d: Draft, id: [u8; 12], now: u64, reliable: bool) -> Draft
-    requires { (d.sends.len < 64) × (d.timeouts ≤ 64) × (now ≤ 9007199254740991) }
-    ensures { Drafts (Unit {0}) 1 0 d (plan_due now reliable id (plan_in d)) result }
-{
-    let table = d.requests;
-    match find_request(table, id) {
-        Position::At(i) => {
-            let row = table.rows[i];
-            let less = remove_request(table, i);
-            let mut out = d;
-            out.requests = less;
-            let asked = row.asked;
-            if reliable {
-                return fail(out, asked);
-            }
-            if 6 <= row.tries {
-                return fail(out, asked);
-            }
-            again(out, row, now)
+    // One request that was due at entry.
+    #[tactic(auto, using(crate::proofs::Drafting::due_none, turn_tables::proofs::Laws::found_txn))]
+    fn due_one(self, id: [u8; 12], now: u64, reliable: bool) -> Draft
+        requires { (self.sends.len < 64) × (self.timeouts ≤ 64) × (now ≤ 9007199254740991) }
+        ensures { Drafts (Unit {0}) 1 0 self (plan_due now reliable id (plan_in self)) result }
+    {
+        let Some(i) = find_request(self.requests, id) else {
+            return self;
+        };
+        let row = self.requests.rows[i];
+        let less = Draft {
+            requests: remove_request(self.requests, i),
+            ..self
+        };
+        if reliable || 6 <= row.tries {
+            less.fail(Kind::from(row.asked))
+        } else {
+            less.again(row, now)
         }
-        Position::Nowhere => d,
     }
-}
 
-// Something to be asked for, last.
-fn ask(d: Draft, asked: Asked) -> Draft
-    requires { d.asks.len < 65 }
-    ensures { Drafts (Unit {0}) 0 1 d (asking (kind_in asked) (plan_in d)) result }
-{
-    let mut asks = d.asks;
-    let at = asks.len;
-    asks.rows[at] = asked;
-    asks.len = at + 1;
-    let mut next = d;
-    next.asks = asks;
-    next
-}
-
-// The allocation's Refresh, where it falls due.
-fn renew_refresh(d: Draft, now: u64) -> Draft
-    requires { d.asks.len < 65 }
-    ensures { Drafts (Unit {0}) 0 1 d (plan_refresh now (plan_in d)) result }
-{
-    if !d.has_refresh {
-        return d;
-    }
-    if now < d.refresh_at {
-        return d;
-    }
-    let mut next = d;
-    next.has_refresh = false;
-    next.refresh_at = 0;
-    let asked = asked_of(Kind::Refresh(600));
-    ask(next, asked)
-}
-
-// A permission that falls due: asked for again, in its place.
-fn renew_permission(d: Draft, host: Host) -> Draft
-    requires { d.asks.len < 65 }
-    ensures { Drafts (Unit {0}) 0 1 d (plan_perm (ip_in host) (plan_in d)) result }
-{
-    let table = d.permissions;
-    let ip = ip_of(host);
-    match find_permission(table, ip) {
-        Position::At(i) => {
-            let own = host_of(ip);
-            let row = Permission {
-                host: own,
-                granted: false,
-                at: 0,
-            };
-            let put = put_permission(table, i, row);
-            let mut next = d;
-            next.permissions = put;
-            let asked = asked_of(Kind::Permission(ip));
-            ask(next, asked)
+    // The allocation's Refresh, where it falls due.
+    #[tactic(auto, using(crate::proofs::Drafting::refresh_none, crate::proofs::Drafting::refresh_later))]
+    fn renew_refresh(self, now: u64) -> Draft
+        requires { self.asks.len < 65 }
+        ensures { Drafts (Unit {0}) 0 1 self (plan_refresh now (plan_in self)) result }
+    {
+        let Some(at) = self.refresh else {
+            return self;
+        };
+        if now < at {
+            return self;
         }
-        Position::Nowhere => d,
+        let taken = Draft {
+            refresh: None,
+            ..self
+        };
+        taken.ask(Kind::Refresh(600))
     }
-}
 
-// A channel that falls due: its next renewal is set, and it is bound again.
-fn renew_channel(d: Draft, place: Place, now: u64) -> Draft
-    requires { (d.asks.len < 65) × (now ≤ 9007199254740991) }
-    ensures { Drafts (Unit {0}) 0 1 d (plan_chan now (address_in place) (plan_in d)) result }
-{
-    let table = d.channels;
-    let peer = address_of(place);
-    match find_channel(table, peer) {
-        Position::At(i) => {
-            let mut row = table.rows[i];
-            row.at = now + 540000;
-            let put = put_channel(table, i, row);
-            let mut next = d;
-            next.channels = put;
-            let asked = asked_of(Kind::ChannelBind(peer, row.number));
-            ask(next, asked)
+    // A permission that falls due: asked for again, in its place.
+    #[tactic(auto, using(crate::proofs::Drafting::permission_renewed, crate::proofs::Drafting::permission_missing))]
+    fn renew_permission(self, host: Host) -> Draft
+        requires { self.asks.len < 65 }
+        ensures { Drafts (Unit {0}) 0 1 self (plan_perm (ip_in host) (plan_in self)) result }
+    {
+        let ip = Ip::from(host);
+        let Some(i) = find_permission(self.permissions, ip) else {
+            return self;
+        };
+        let row = Permission {
+            host: Host::from(ip),
+            granted: false,
+            at: 0,
+        };
+        let asked = Draft {
+            permissions: put_permission(self.permissions, i, row),
+            ..self
+        };
+        asked.ask(Kind::Permission(ip))
+    }
+
+    // A channel that falls due: its next renewal is set, and it is bound again.
+    #[tactic(auto, using(crate::proofs::Drafting::channel_renewed, crate::proofs::Drafting::channel_missing, turn_tables::proofs::Laws::found_chan))]
+    fn renew_channel(self, place: Place, now: u64) -> Draft
+        requires { (self.asks.len < 65) × (now ≤ 9007199254740991) }
+        ensures { Drafts (Unit {0}) 0 1 self (plan_chan now (address_in place) (plan_in self)) result }
+    {
+        let peer = Address::from(place);
+        let Some(i) = find_channel(self.channels, peer) else {
+            return self;
+        };
+        let mut row = self.channels.rows[i];
+        row.at = now + 540000;
+        let renewed = Draft {
+            channels: put_channel(self.channels, i, row),
+            ..self
+        };
+        renewed.ask(Kind::ChannelBind(peer, row.number))
+    }
+
+    // A channel that waits for its permission, to be bound.
+    #[tactic(auto, using(crate::proofs::Drafting::bind_found, crate::proofs::Drafting::bind_missing, turn_tables::proofs::Laws::found_chan))]
+    fn bind(self, place: Place) -> Draft
+        requires { self.asks.len < 65 }
+        ensures { Drafts (Unit {0}) 0 1 self (plan_bind (address_in place) (plan_in self)) result }
+    {
+        let peer = Address::from(place);
+        match find_channel(self.channels, peer) {
+            Some(i) => self.ask(Kind::ChannelBind(peer, self.channels.rows[i].number)),
+            None => self,
         }
-        Position::Nowhere => d,
     }
-}
 
-// Every request that was due at entry, in that order.
-fn due_all(d: Draft, ids: Ids, now: u64, reliable: bool) -> Draft
-    requires { (ids.len ≤ 64) × (d.sends.len ≡ 0) × (d.timeouts ≡ 0) × (now ≤ 9007199254740991) }
-    ensures { Drafts (Unit {0}) 64 0 d (each (plan_due now reliable) (map «bytes_of» (take ids.len ids.rows)) (plan_in d)) result }
-{
-    let n = ids.len;
-    let mut at = d;
-    let mut k = 0;
-    while k < n {
-        let id = ids.rows[k];
-        let bytes = id.bytes;
-        let next = due_one(at, bytes, now, reliable);
-        at = next;
-        k += 1;
-    }
-    at
-}
-
-// Every permission that falls due, and every channel.
-fn renew_permissions(d: Draft, hosts: Hosts) -> Draft
-    requires { (hosts.len ≤ 32) × (d.asks.len ≤ 1) }
-    ensures { Drafts (Unit {0}) 0 32 d (each plan_perm (map ip_in (take hosts.len hosts.rows)) (plan_in d)) result }
-{
-    let n = hosts.len;
-    let mut at = d;
-    let mut k = 0;
-    while k < n {
-        let host = hosts.rows[k];
-        let next = renew_permission(at, host);
-        at = next;
-        k += 1;
-    }
-    at
-}
-
-fn renew_channels(d: Draft, places: Places, now: u64) -> Draft
-    requires { (places.len ≤ 32) × (d.asks.len ≤ 33) × (now ≤ 9007199254740991) }
-    ensures { Drafts (Unit {0}) 0 32 d (each (plan_chan now) (map address_in (take places.len places.rows)) (plan_in d)) result }
-{
-    let n = places.len;
-    let mut at = d;
-    let mut k = 0;
-    while k < n {
-        let place = places.rows[k];
-        let next = renew_channel(at, place, now);
-        at = next;
-        k += 1;
-    }
-    at
-}
-
-// The whole poll, from the state at entry.
-fn drafted(d: Draft, now: u64, reliable: bool, closing: bool) -> Draft
-    requires { (d.sends.len ≡ 0) × (d.asks.len ≡ 0) × (d.timeouts ≡ 0) × (now ≤ 9007199254740991) }
-    ensures { Drafts (Unit {0}) 64 65 d (planned_from now reliable closing (plan_in d)) result }
-{
-    let requests = d.requests;
-    let ids = due_requests(requests, now);
-    let a = due_all(d, ids, now, reliable);
-    if closing {
-        return a;
-    }
-    let b = renew_refresh(a, now);
-    let permissions = b.permissions;
-    let hosts = due_permissions(permissions, now);
-    let e = renew_permissions(b, hosts);
-    let channels = e.channels;
-    let places = due_channels(channels, now);
-    renew_channels(e, places, now)
-}
-
-// The plan of a poll from a client's tables. A time above the limit plans nothing.
-pub fn plan(
-    requests: Requests,
-    permissions: Permissions,
-    channels: Channels,
-    refresh: Refreshing,
-    now: u64,
-    reliable: bool,
-    closing: bool,
-) -> Draft
-    ensures { Plans requests permissions channels refresh now reliable closing result }
-{
-    let d = begun(requests, permissions, channels, refresh);
-    if 9007199254740991 < now {
-        return d;
-    }
-    drafted(d, now, reliable, closing)
-}
-
-// The draft at entry.
-fn begun(
-    requests: Requests,
-    permissions: Permissions,
-    channels: Channels,
-    refresh: Refreshing,
-) -> Draft
-    ensures { Begins requests permissions channels refresh result }
-{
-    let sends = no_requests();
-    let blank = asked_of(Kind::Allocate);
-    let rows = [blank; 65];
-    let asks = Asks { rows: rows, len: 0 };
-    Draft {
-        requests: requests,
-        permissions: permissions,
-        channels: channels,
-        sends: sends,
-        asks: asks,
-        timeouts: 0,
-        refresh_at: refresh.at,
-        has_refresh: refresh.held,
-        done: refresh.done,
-    }
-}
-
-// A channel that waits for its permission, to be bound.
-fn bind(d: Draft, place: Place) -> Draft
-    requires { d.asks.len < 65 }
-    ensures { Drafts (Unit {0}) 0 1 d (plan_bind (address_in place) (plan_in d)) result }
-{
-    let table = d.channels;
-    let peer = address_of(place);
-    match find_channel(table, peer) {
-        Position::At(i) => {
-            let row = table.rows[i];
-            let asked = asked_of(Kind::ChannelBind(peer, row.number));
-            ask(d, asked)
+    // A loop for each kind of row: one over a closure would take what each step requires as a clause of its own, and be no plainer.
+    // Every request that was due at entry, in that order.
+    #[tactic(auto, using(crate::proofs::Drafting::same_draft, crate::proofs::Drafting::went_through))]
+    fn due_all(self, ids: &[Id], now: u64, reliable: bool) -> Draft
+        requires { (length ids.now ≤ 64) × (self.sends.len ≡ 0) × (self.timeouts ≡ 0) × (now ≤ 9007199254740991) }
+        ensures { Drafts (Unit {0}) 64 0 self (each (plan_due now reliable) (map «bytes_of» ids.now) (plan_in self)) result }
+    {
+        let mut draft = self;
+        for id in ids {
+            draft = draft.due_one(id.bytes, now, reliable);
         }
-        Position::Nowhere => d,
+        draft
     }
-}
 
-fn bind_all(d: Draft, places: Places) -> Draft
-    requires { (places.len ≤ 32) × (d.asks.len ≡ 0) }
-    ensures { Drafts (Unit {0}) 0 32 d (each plan_bind (map address_in (take places.len places.rows)) (plan_in d)) result }
-{
-    let n = places.len;
-    let mut at = d;
-    let mut k = 0;
-    while k < n {
-        let place = places.rows[k];
-        let next = bind(at, place);
-        at = next;
-        k += 1;
+    // Every permission that falls due, and every channel.
+    #[tactic(auto, using(crate::proofs::Drafting::same_draft, crate::proofs::Drafting::went_through))]
+    fn renew_permissions(self, hosts: &[Host]) -> Draft
+        requires { (length hosts.now ≤ 32) × (self.asks.len ≤ 1) }
+        ensures { Drafts (Unit {0}) 0 32 self (each plan_perm (map ip_in hosts.now) (plan_in self)) result }
+    {
+        let mut draft = self;
+        for host in hosts {
+            draft = draft.renew_permission(*host);
+        }
+        draft
     }
-    at
-}
 
-// The plan of a permission's success, from the tables in which its request is gone and it is granted.
-pub fn binding(
-    requests: Requests,
-    permissions: Permissions,
-    channels: Channels,
-    refresh: Refreshing,
-    ip: Ip,
-) -> Draft
-    ensures { Binds requests permissions channels refresh ip result }
-{
-    let places = waiting_channels(channels, ip);
-    let d = begun(requests, permissions, channels, refresh);
-    bind_all(d, places)
+    #[tactic(auto, using(crate::proofs::Drafting::same_draft, crate::proofs::Drafting::went_through))]
+    fn renew_channels(self, places: &[Place], now: u64) -> Draft
+        requires { (length places.now ≤ 32) × (self.asks.len ≤ 33) × (now ≤ 9007199254740991) }
+        ensures { Drafts (Unit {0}) 0 32 self (each (plan_chan now) (map address_in places.now) (plan_in self)) result }
+    {
+        let mut draft = self;
+        for place in places {
+            draft = draft.renew_channel(*place, now);
+        }
+        draft
+    }
+
+    #[tactic(auto, using(crate::proofs::Drafting::same_draft, crate::proofs::Drafting::went_through))]
+    fn bind_all(self, places: &[Place]) -> Draft
+        requires { (length places.now ≤ 32) × (self.asks.len ≡ 0) }
+        ensures { Drafts (Unit {0}) 0 32 self (each plan_bind (map address_in places.now) (plan_in self)) result }
+    {
+        let mut draft = self;
+        for place in places {
+            draft = draft.bind(*place);
+        }
+        draft
+    }
+
+    // The whole poll, from the state at entry.
+    fn run(self, now: u64, reliable: bool, closing: bool) -> Draft
+        requires { (self.sends.len ≡ 0) × (self.asks.len ≡ 0) × (self.timeouts ≡ 0) × (now ≤ 9007199254740991) }
+        ensures { Drafts (Unit {0}) 64 65 self (planned_from now reliable closing (plan_in self)) result }
+    {
+        let ids = due_requests(self.requests, now);
+        let settled = self.due_all(&ids.rows[..ids.len], now, reliable);
+        if closing {
+            return settled;
+        }
+        let refreshed = settled.renew_refresh(now);
+        let hosts = due_permissions(refreshed.permissions, now);
+        let permitted = refreshed.renew_permissions(&hosts.rows[..hosts.len]);
+        let places = due_channels(permitted.channels, now);
+        permitted.renew_channels(&places.rows[..places.len], now)
+    }
+
+    // Every unbound channel of an IP, to be bound.
+    #[tactic(auto, using(crate::proofs::Drafting::binds_all))]
+    fn bind_waiting(self, ip: Ip) -> Draft
+        requires { self.asks.len ≡ 0 }
+        ensures { Drafts (Unit {0}) 0 32 self (plan_binds ip (plan_in self)) result }
+    {
+        let places = waiting_channels(self.channels, ip);
+        self.bind_all(&places.rows[..places.len])
+    }
 }

@@ -1,9 +1,9 @@
 -- A permission's success: the code's tables are the definition's, its plan stands for the definition's run, and where the permission meets
 -- a full table the number is 5.
-use mathlib.Core.Path.{◌≡◌, refl, ap, ap₂, sym, subst, ◌∙◌}
+use Rattle.std.specs.Prelude.{Option, None, Some}
+use mathlib.Core.Path.{◌≡◌, refl, ap, sym, subst, ◌∙◌}
 use mathlib.Core.Bool.{Bool, true, false}
 use mathlib.Core.List.{List, [], ◌∷◌}
-use mathlib.Core.Option.{Option, none, some}
 use Prim.Native.Nat.{ℕ, ◌+◌, ◌≤◌, ◌<◌, min}
 use native.Mathlib.Omega.{arith}
 use lib.ListN.{length}
@@ -21,41 +21,37 @@ use Rattle.turn_state.specs.Maps.{get, insert, remove, each, if_let}
 use Rattle.turn_state.specs.State.{Txn, Perm, Chan, Turn, Run, begin}
 use Rattle.turn_state.specs.Source.{under_id, for_ip, for_peer}
 use Rattle.turn_state.specs.Number.{given_of, number, above, full}
-use Rattle.turn_state.specs.View.{view, held, host_of, ip_in, perm_in, txns_in, perms_in, chans_in, TidyRequests, TidyPermission, TidyPermissions}
-use Rattle.turn_tables.specs.declared.Position.TheVariants.{At, Nowhere}
+use Rattle.turn_state.specs.View.{view, host_of, ip_in, perm_in, txns_in, perms_in, TidyRequests, TidyPermission}
 use Rattle.turn_tables.specs.Rows.{position}
 use Rattle.turn_tables.specs.Tables.{removed_request, put_permission, pushed_permission}
 use Rattle.turn_tables.proofs.Keys.{nowhere_remove, nowhere_contains, at_contains}
 use Rattle.turn_tables.proofs.Laws.{txns_length, remove_txn, tidy_removed_request, perms_length, replace_perm, add_perm, tidy_put_permission, tidy_pushed_permission}
 use Rattle.turn_packet.proofs.Rooms.{Rooms}
 use Rattle.turn_plan.specs.declared.Draft.{Draft}
-use Rattle.turn_plan.specs.declared.Refreshing.{Refreshing}
-use Rattle.turn_plan.specs.Plan.{Plan, asking, plan_bind, plan_binds, waiting_peers, granting, plan_success}
-use Rattle.turn_plan.specs.Draft.{plan_in, entry_of}
+use Rattle.turn_plan.specs.Plan.{Plan, entry, with_txns, with_perms, asking, plan_bind, plan_binds, waiting_peers, granting, plan_success}
+use Rattle.turn_plan.specs.Draft.{plan_in, set_requests, set_permissions}
 use Rattle.turn_plan.specs.Follows.{Follows, FollowsFull, perm_full}
 use Rattle.turn_plan.proofs.Steps.{success_follows}
-use Rattle.turn_poll.specs.Concluding.{permitted}
+use Rattle.turn_state.specs.declared.Refusal.TheVariants.{Full}
+use Rattle.turn_poll.specs.Concluding.{permitted, Granted, NoPlace}
 use Rattle.turn_poll.proofs.Packets.{not_above, short_kinds}
 
 -- is there room for the permission?
-pub room_found : (t : Permissions) (ip : Ip) (i : ℕ) → position (for_ip ip) (perms_in t) ≡ At i → false ≡ perm_full (perms_in t) ip
-room_found t ip i found = sym (rw (at_contains (for_ip ip) (perms_in t) i found))
-
 many : (b : Bool) (n m : ℕ) → m ≡ min n 32 → leb 32 n ≡ b → b ≡ leb 32 m
 many true n m e h = sym (le-leb 32 m (omega (arith, e, leb-true 32 n h)))
 many false n m e h = sym (lt-leb 32 m (omega (arith, e, leb-false 32 n h)))
 
-pub room_missing : (t : Permissions) (ip : Ip) → length t.rows ≡ 32 → position (for_ip ip) (perms_in t) ≡ Nowhere → leb 32 t.len ≡ perm_full (perms_in t) ip
+room_missing : (t : Permissions) (ip : Ip) → length t.rows ≡ 32 → position (for_ip ip) (perms_in t) ≡ None → leb 32 t.len ≡ perm_full (perms_in t) ip
 room_missing t ip rows missing =
     rw (nowhere_contains (for_ip ip) (perms_in t) missing) (many (leb 32 t.len) t.len (length (perms_in t)) (perms_length t rows) refl)
 
 -- the requests without one
 module _ (t : Requests) (id : List ℕ) (rows : length t.rows ≡ 64) where
-  pub without_found : (r : Requests) (i : ℕ) → position (under_id id) (txns_in t) ≡ At i → r ≡ removed_request t i
+  pub without_found : (r : Requests) (i : ℕ) → position (under_id id) (txns_in t) ≡ Some i → r ≡ removed_request t i
       → (txns_in r ≡ remove (under_id id) (txns_in t)) × (TidyRequests t → TidyRequests r)
   without_found r i found e = (ap txns_in e ∙ remove_txn t rows (under_id id) i found, λ n. rw e (tidy_removed_request t n i rows))
 
-  pub without_missing : position (under_id id) (txns_in t) ≡ Nowhere → (txns_in t ≡ remove (under_id id) (txns_in t)) × (TidyRequests t → TidyRequests t)
+  pub without_missing : position (under_id id) (txns_in t) ≡ None → (txns_in t ≡ remove (under_id id) (txns_in t)) × (TidyRequests t → TidyRequests t)
   without_missing missing = (sym (nowhere_remove (under_id id) (txns_in t) missing), λ n. n)
 
 -- the permissions with one that is granted
@@ -63,27 +59,35 @@ module _ (t : Permissions) (ip : Ip) (now : ℕ) (host : Host) (rows : length t.
   abbrev row : Permission
   row = record { host = host; granted = true; at = now + 240000 }
 
-  shown : perm_in row ≡ record { ip = ip; refresh = some (now + 240000) }
+  shown : perm_in row ≡ record { ip = ip; refresh = Some (now + 240000) }
   shown = rw back
 
   neat : TidyPermission row
   neat = record { host = rw back (sym eh); asked = tt }
 
-  pub grant_found : (r : Permissions) (i : ℕ) → position (for_ip ip) (perms_in t) ≡ At i → r ≡ put_permission t i row
-      → (perms_in r ≡ granting now ip (perms_in t)) × (TidyPermissions t → TidyPermissions r)
+  pub grant_found : (r : Permissions) (i : ℕ) → position (for_ip ip) (perms_in t) ≡ Some i → r ≡ put_permission t i row → Granted t ip now r
   grant_found r i found e =
-      (ap perms_in e ∙ replace_perm t rows (for_ip ip) i row found ∙ ap (λ (p : Perm). insert (for_ip ip) p (perms_in t)) shown, λ n. rw e (tidy_put_permission t n i row neat))
+      record {
+        free = rw (at_contains (for_ip ip) (perms_in t) i found);
+        granted = ap perms_in e ∙ replace_perm t rows (for_ip ip) i row found ∙ ap (λ (p : Perm). insert (for_ip ip) p (perms_in t)) shown;
+        tidy = λ n. rw e (tidy_put_permission t n i row neat);
+      }
 
-  pub grant_new : (r : Permissions) → position (for_ip ip) (perms_in t) ≡ Nowhere → perm_full (perms_in t) ip ≡ false → r ≡ pushed_permission t row
-      → (perms_in r ≡ granting now ip (perms_in t)) × (TidyPermissions t → TidyPermissions r)
-  grant_new r missing free e =
-      let few : t.len < 32 = leb-false 32 t.len (room_missing t ip rows missing ∙ free) in
-      (ap perms_in e ∙ add_perm t rows (for_ip ip) row missing few ∙ ap (λ (p : Perm). insert (for_ip ip) p (perms_in t)) shown, λ n. rw e (tidy_pushed_permission t n row neat))
+  pub grant_new : (r : Permissions) → position (for_ip ip) (perms_in t) ≡ None → t.len < 32 → r ≡ pushed_permission t row → Granted t ip now r
+  grant_new r missing few e =
+      record {
+        free = sym (room_missing t ip rows missing) ∙ lt-leb 32 t.len few;
+        granted = ap perms_in e ∙ add_perm t rows (for_ip ip) row missing few ∙ ap (λ (p : Perm). insert (for_ip ip) p (perms_in t)) shown;
+        tidy = λ n. rw e (tidy_pushed_permission t n row neat);
+      }
+
+pub no_grant : (t : Permissions) (ip : Ip) → length t.rows ≡ 32 → position (for_ip ip) (perms_in t) ≡ None → 32 ≤ t.len → NoPlace t ip Full
+no_grant t ip rows missing many = record { five = refl; met = sym (room_missing t ip rows missing) ∙ le-leb 32 t.len many }
 
 -- a row of binds sends nothing again
 bind_sends : (p : Plan) (o : Option Chan) (peer : Address) → (if_let o (λ c. asking (ChannelBind peer c.num) p) p).sends ≡ p.sends
-bind_sends p none peer = refl
-bind_sends p (some c) peer = refl
+bind_sends p None peer = refl
+bind_sends p (Some c) peer = refl
 
 binds_sends : (peers : List Address) (p : Plan) → (each plan_bind peers p).sends ≡ p.sends
 unfolding plan_bind
@@ -112,14 +116,13 @@ module _ (client : Client) (now : ℕ) (lent id buf : List ℕ) (ip : Ip) (rows 
       let met : full success.report.added ≡ true = ap (λ (r : Run). full r.report.added) f.run ∙ f.met ∙ rw e in
       rw (le-ltb 9007199254740991 now in_time, texts, bodies, met)
 
-  -- the draft of the code
-  pub success_plan : (d : Draft) (requests : Requests) (granted : Permissions) (refresh : Refreshing)
-      → refresh ≡ record { at = client.refresh_at; held = client.has_refresh; done = client.done }
-      → plan_in d ≡ plan_binds ip (entry_of requests granted client.channels refresh) → txns_in requests ≡ remove (under_id id) c.txns → perms_in granted ≡ granting now ip c.perms
-      → perm_full c.perms ip ≡ false → Follows c now lent (plan_in d) success
-  success_plan d requests granted refresh er means et ep free =
+  -- the draft of the code: that of the call, with the tables in which the request is gone and the permission granted
+  pub success_plan : (start d : Draft) (t : Requests) (p : Permissions) → plan_in start ≡ entry c → txns_in t ≡ remove (under_id id) c.txns → perms_in p ≡ granting now ip c.perms
+      → plan_in d ≡ plan_binds ip (plan_in (set_permissions p (set_requests t start))) → perm_full c.perms ip ≡ false → Follows c now lent (plan_in d) success
+  success_plan start d t p begins et ep means free =
       let is : plan_in d ≡ plan_success now id ip c =
-      means ∙ ap (λ (x : Refreshing). plan_binds ip (entry_of requests granted client.channels x)) er
-      ∙ ap₂ (λ (t : List Txn) (p : List Perm). plan_binds ip (record { txns = t; perms = p; chans = chans_in client.channels; done = client.done; refresh_at = held client.has_refresh client.refresh_at; sends = []; kinds = []; timeouts = 0 })) et ep in
+      means ∙ ap (λ (l : List Txn). plan_binds ip (with_perms (perms_in p) (with_txns l (plan_in start)))) et
+      ∙ ap (λ (l : List Perm). plan_binds ip (with_perms l (with_txns (remove (under_id id) c.txns) (plan_in start)))) ep
+      ∙ ap (λ (q : Plan). plan_binds ip (with_perms (granting now ip c.perms) (with_txns (remove (under_id id) c.txns) q))) begins in
       let g = subst (λ (b : Bool). FollowsFull b c now lent (plan_success now id ip c) success) free follows in
-      subst (λ (p : Plan). Follows c now lent p success) (sym is) g
+      subst (λ (q : Plan). Follows c now lent q success) (sym is) g

@@ -1,24 +1,17 @@
--- What the code learns from an answer, the row of a request that is tried again, and the answer once it went out.
-use Rattle.std.specs.Prelude.{Bool, true, false, cond, ◌&&◌, not, List, ℕ}
+-- What the code learns from an answer, and the row of a request that is tried again.
+use Rattle.std.specs.Prelude.{true, cond, List, ℕ, Option, None, Some}
 use Rattle.stun_text.specs.declared.Text.{Text}
 use Rattle.stun_check.specs.Source.{long_term}
-use Rattle.stun_walk.specs.declared.Str.{Str}
 use Rattle.turn_state.specs.declared.Client.{Client}
 use Rattle.turn_state.specs.declared.Request.{Request}
 use Rattle.turn_state.specs.declared.Requests.{Requests}
-use Rattle.turn_state.specs.declared.Answer.{Answer}
-use Rattle.turn_state.specs.declared.Event.TheVariants.{Nothing}
 use Rattle.turn_state.specs.declared.Credentials.{Credentials}
 use Rattle.turn_state.specs.View.{kind_in, text_in, shows_under}
 
--- a text that was given and does not fit its room
-abbrev pub overlong : Str → Bool
-overlong s = s.found && not s.read.fits
-
 -- the credentials with a realm and its key, and with a nonce, where one was given
-abbrev pub with_realm : Bool → Text → Text → Credentials → Credentials
-with_realm false realm password c = c
-with_realm true realm password c =
+abbrev pub with_realm : Option Text → Text → Credentials → Credentials
+with_realm None password c = c
+with_realm (Some realm) password c =
     record {
       username = c.username;
       realm = realm;
@@ -29,9 +22,9 @@ with_realm true realm password c =
       has_key = true;
     }
 
-abbrev pub with_nonce : Bool → Text → Credentials → Credentials
-with_nonce false nonce c = c
-with_nonce true nonce c =
+abbrev pub with_nonce : Option Text → Credentials → Credentials
+with_nonce None c = c
+with_nonce (Some nonce) c =
     record {
       username = c.username;
       realm = c.realm;
@@ -72,8 +65,3 @@ client_with credentials requests c =
       closing = c.closing;
       reliable = c.reliable;
     }
-
--- the answer of a request that went out
-abbrev pub sent_answer : Client → Credentials → Requests → ℕ → Answer
-sent_answer c credentials requests size =
-    record { client = client_with credentials requests c; refusal = 0; event = Nothing; events = 0; packets = 1; len = size }

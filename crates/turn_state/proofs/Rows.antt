@@ -1,12 +1,11 @@
--- The numbers of an address or a kind mean that address or kind again: for what rows hold, and for every value of the types
--- (own-*, which the contracts of `host_of`, `place_of` and `asked_of` say).
+-- The numbers of an address or a kind mean that address or kind again, for what rows hold. For values of the types the conversions
+-- (`From` in src) say it themselves.
 use mathlib.Core.Path.{◌≡◌, refl, ap, sym, ◌∙◌}
 use mathlib.Core.Bool.{Bool, true, false}
-use Prim.Native.Nat.{ℕ, ◌^◌, ◌<◌}
-use native.Mathlib.Nat.{mod-mod, mod-eq_of_lt}
+use Prim.Native.Nat.{ℕ, ◌^◌}
+use native.Mathlib.Nat.{mod-mod}
 use lib.Dec.{eqb}
-use Rattle.stun_address.specs.declared.Ip.{Ip}
-use Rattle.stun_address.specs.declared.Ip.TheVariants.{V4, V6}
+use Rattle.stun_address.specs.declared.Ip.TheVariants.{V4}
 use Rattle.stun_address.specs.declared.Address.{Address}
 use Rattle.turn_state.specs.declared.Kind.{Kind}
 use Rattle.turn_state.specs.declared.Kind.TheVariants.{Permission, ChannelBind}
@@ -36,22 +35,7 @@ back_of a false false false ex ey ez = rw (ex, ey, ez) (ap (λ (p : Address). Ch
 pub kind_back : (a : Asked) → kind_in (asked_of (kind_in a)) ≡ kind_in a
 kind_back a = back_of a (eqb a.tag 0) (eqb a.tag 1) (eqb a.tag 2) refl refl refl
 
--- an address whose numbers are of their types comes back, and so does what holds it
-pub own_v4 : (ip : Ip) (x : ℕ) → ip ≡ V4 x → x < 2 ^ 32
-    → (◌≡◌ {A = Host} (record { family = 1; high = 0; low = x }) (host_of ip)) × (ip_in (record { family = 1; high = 0; low = x }) ≡ ip)
-own_v4 ip x e h = (sym (ap host_of e), ap V4 (mod-eq_of_lt h) ∙ sym e)
-
-pub own_v6 : (ip : Ip) (h l : ℕ) → ip ≡ V6 h l → (◌≡◌ {A = Host} (record { family = 2; high = h; low = l }) (host_of ip)) × (ip_in (record { family = 2; high = h; low = l }) ≡ ip)
-own_v6 ip h l e = (sym (ap host_of e), sym e)
-
-pub own_place : (a : Address) (h : Host) → h ≡ host_of a.ip → ip_in h ≡ a.ip
-    → (◌≡◌ {A = Place} (record { host = h; port = a.port }) (place_of a)) × (address_in (record { host = h; port = a.port }) ≡ a)
-own_place a h e f = (rw e, rw f)
-
-pub own_permission : (k : Kind) (ip : Ip) (h : Host) → k ≡ Permission ip → h ≡ host_of ip → ip_in h ≡ ip
-    → (◌≡◌ {A = Asked} (record { tag = 2; number = 0; lifetime = 0; peer = record { host = h; port = 0 } }) (asked_of k)) × (kind_in (record { tag = 2; number = 0; lifetime = 0; peer = record { host = h; port = 0 } }) ≡ k)
-own_permission k ip h ek e f = (rw (ek, e), ap Permission f ∙ sym ek)
-
+-- a bind's numbers are its own, whose meaning is that bind
 pub own_bind : (k : Kind) (peer : Address) (number : ℕ) (p : Place) → k ≡ ChannelBind peer number → p ≡ place_of peer → address_in p ≡ peer
     → (◌≡◌ {A = Asked} (record { tag = 3; number = number; lifetime = 0; peer = p }) (asked_of k)) × (kind_in (record { tag = 3; number = number; lifetime = 0; peer = p }) ≡ k)
 own_bind k peer number p ek e f = (rw (ek, e), ap (λ (x : Address). ChannelBind x number) f ∙ sym ek)

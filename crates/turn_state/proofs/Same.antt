@@ -33,12 +33,11 @@ use Rattle.turn_state.specs.declared.Permissions.{Permissions}
 use Rattle.turn_state.specs.declared.Channels.{Channels}
 use Rattle.turn_state.specs.declared.Credentials.{Credentials}
 use Rattle.turn_state.specs.declared.Client.{Client}
-use Rattle.turn_state.specs.declared.Answer.{Answer}
 use Rattle.turn_state.specs.contracts.Client.{the_type as the_client}
 use Rattle.turn_state.specs.contracts.Request.{the_type as the_request, the_row as the_request_row}
 use Rattle.turn_state.specs.State.{Perm, Chan}
 use Rattle.turn_state.specs.Number.{Outcome}
-use Rattle.turn_state.specs.View.{host_of, ip_in, place_of, address_in, nowhere, asked_of, kind_in, text_in, attrs_of, txn_in, perm_in, chan_in, txns_in, perms_in, chans_in, held, either, absent, view, no_text, shows_under, is_v6, Each, no_rows, row, TidyText, TidyRequest, TidyPermission, TidyChannel, TidyRequests, TidyPermissions, TidyChannels, TidyCredentials, Tidy, Meets, Twelve, Sized}
+use Rattle.turn_state.specs.View.{host_of, ip_in, place_of, address_in, nowhere, asked_of, kind_in, text_in, attrs_of, txn_in, perm_in, chan_in, txns_in, perms_in, chans_in, held, either, absent, view, no_text, shows_under, is_v6, Each, no_rows, row, TidyText, TidyRequest, TidyPermission, TidyChannel, TidyRequests, TidyPermissions, TidyChannels, TidyCredentials, Tidy, Reply, Meets, Twelve, Sized}
 
 -- lists of a room, blank after a length
 module _ {A : Type 0} (room n m : ℕ) (l k : List A) (fl : length l ≡ room) (fk : length k ≡ room) (hn : n ≤ room) (hm : m ≤ room) (e : take n l ≡ take m k) where
@@ -254,7 +253,7 @@ same_client a b m n x y e =
     }
 
 -- so two answers that meet the definition for a tidy client are one, and what they leave in the output is one
-pub same_answer : (before : Client) (due : Outcome) (out : List ℕ) (r s : Answer) (after later : List ℕ) → Meets before due out r after → Meets before due out s later
+pub same_answer : (before : Client) (due : Outcome) (out : List ℕ) (r s : Reply) (after later : List ℕ) → Meets before due out r after → Meets before due out s later
     → Tidy before → Sized r.client → Sized s.client → (r ≡ s) × (after ≡ later)
 same_answer before due out r s after later x y tidy m n =
     let client : r.client ≡ s.client = same_client r.client s.client m n (x.tidy tidy) (y.tidy tidy) (x.client ∙ sym y.client) in

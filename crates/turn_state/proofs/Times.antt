@@ -1,8 +1,8 @@
 -- Two rules of the definition that a wrong reading would miss: the floor of a refresh time (case 7), and that a repeat is encoded afresh.
+use Rattle.std.specs.Prelude.{Some}
 use mathlib.Core.Path.{◌≡◌, refl}
 use mathlib.Core.Bool.{Bool, true, false, ◌||◌}
 use mathlib.Core.List.{List, [], ◌∷◌, ◌++◌}
-use mathlib.Core.Option.{some}
 use Prim.Native.Nat.{ℕ, ◌+◌, ◌<◌}
 use lib.Dec.{leb}
 use borrow.Author.Tests.{lt-leb}
@@ -26,7 +26,7 @@ add_out true room held s = refl
 add_out false room held s = refl
 
 -- a repeat is `encode` of its message by the client as it is then
-pub afresh : (now : ℕ) (tid : List ℕ) (s : Run) (t : Txn) → get (under_id tid) s.self.txns ≡ some t → s.self.reliable ≡ false → t.tries < 6
+pub afresh : (now : ℕ) (tid : List ℕ) (s : Run) (t : Txn) → get (under_id tid) s.self.txns ≡ Some t → s.self.reliable ≡ false → t.tries < 6
     → (poll_due now tid s).out ≡ s.out ++ (encode s.self t.msg ∷ [])
 unfolding poll_due insert_txn
 afresh now tid s t pending udp left =

@@ -1,12 +1,11 @@
 -- The source's maps as lists of records in the order in which they came, and its loops. A key is given by the test of a record for it.
-use Rattle.std.specs.Prelude.{Bool, true, false, cond, List, [], ◌∷◌}
-use Rattle.std.proofs.Math.Option.{Option, none, some}
+use Rattle.std.specs.Prelude.{Bool, true, false, cond, List, [], ◌∷◌, Option, None, Some}
 
 module _ {R : Type 0} where
   -- get(key): the record under it
   abbrev pub get : (R → Bool) → List R → Option R
-  get is [] = none
-  get is (r ∷ more) = cond (is r) (some r) (get is more)
+  get is [] = None
+  get is (r ∷ more) = cond (is r) (Some r) (get is more)
 
   -- contains_key(key)
   abbrev pub contains : (R → Bool) → List R → Bool
@@ -35,10 +34,10 @@ each body (x ∷ xs) s = each body xs (body x s)
 
 -- if let Some(x) = o { then } else { otherwise }
 abbrev pub if_let : {X S : Type 0} → Option X → (X → S) → S → S
-if_let none then otherwise = otherwise
-if_let (some x) then otherwise = then x
+if_let None then otherwise = otherwise
+if_let (Some x) then otherwise = then x
 
 -- is_some()
 abbrev pub is_some : {X : Type 0} → Option X → Bool
-is_some none = false
-is_some (some x) = true
+is_some None = false
+is_some (Some x) = true

@@ -1,10 +1,12 @@
 -- Document 01, "Numbers a caller may get back": the number that a run's report and what the caller lent give, the lowest winning; and
 -- what a call answers by it.
-use Rattle.std.specs.Prelude.{Bool, false, cond, ◌||◌, not, List, [], ◌∷◌, ◌++◌, map, ℕ, length, ltb, leb, eqb}
+use Rattle.std.specs.Prelude.{Bool, false, cond, ◌||◌, not, List, [], ◌∷◌, ◌++◌, map, ℕ, length, ltb, leb, eqb, Option, None, Some, Result, Ok, Err}
 use Rattle.stun_frame.specs.Source.{to_be}
 use Rattle.stun_check.specs.Source.{same}
 use Rattle.stun_text.specs.Utf8.{well_formed}
 use Rattle.turn_state.specs.declared.Event.{Event}
+use Rattle.turn_state.specs.declared.Refusal.{Refusal}
+use Rattle.turn_state.specs.declared.Refusal.TheVariants.{Late, LongText, IllFormed, LongBody, Full, FewIds, TakenId, SmallOutput}
 use Rattle.turn_state.specs.Maps.{contains}
 use Rattle.turn_state.specs.State.{Turn, Added, Run, begin, ids_in}
 use Rattle.turn_state.specs.Source.{new}
@@ -63,6 +65,26 @@ number g before s =
     ∷ (8, ltb g.room (length (framed s.out)))
     ∷ []
     )
+
+-- the numbers of the code's refusals
+abbrev pub number_of : Refusal → ℕ
+number_of Late = 1
+number_of LongText = 2
+number_of IllFormed = 3
+number_of LongBody = 4
+number_of Full = 5
+number_of FewIds = 6
+number_of TakenId = 7
+number_of SmallOutput = 8
+
+-- the number of what may be refused: 0 where it is not
+abbrev pub number_in : {A : Type 0} → Result A Refusal → ℕ
+number_in (Ok a) = 0
+number_in (Err r) = number_of r
+
+abbrev pub number_or_0 : Option Refusal → ℕ
+number_or_0 None = 0
+number_or_0 (Some r) = number_of r
 
 -- what a call answers: refused, it changes nothing and tells nothing
 pub record Outcome : Type 0 where

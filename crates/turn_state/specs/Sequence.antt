@@ -1,6 +1,5 @@
 -- A sequence of calls from an opening on, with what each answers: refusal, events, packets, the client after it, and its deadline.
-use Rattle.std.specs.Prelude.{Bool, List, [], ◌∷◌, ℕ, length}
-use Rattle.std.proofs.Math.Option.{Option}
+use Rattle.std.specs.Prelude.{Bool, List, [], ◌∷◌, ℕ, length, Option}
 use Rattle.stun_address.specs.declared.Address.{Address}
 use Rattle.turn_state.specs.State.{Turn}
 use Rattle.turn_state.specs.Source.{start, handle, send, poll, transport_failed, close, next_deadline}

@@ -1,26 +1,17 @@
 -- turn.rs, method by method, under its names, in its order of steps. Times are whole milliseconds. A method that takes `&mut self`
 -- is a function from run to run: it has `self`, and its packets and events go to the run's `out` and `ev`.
-use Rattle.std.specs.Prelude.{Bool, true, false, cond, ◌&&◌, ◌||◌, not, List, [], ◌∷◌, ◌++◌, map, ℕ, ◌+◌, ◌-◌, ◌*◌, ◌/◌, ◌%◌, ◌^◌, min, max, length, take, drop, replicate, ltb, leb, eqb}
-use Rattle.std.proofs.Math.Option.{Option, none, some}
+use Rattle.std.specs.Prelude.{Bool, true, false, cond, ◌&&◌, ◌||◌, not, List, [], ◌∷◌, ◌++◌, map, ℕ, ◌+◌, ◌-◌, ◌*◌, ◌/◌, ◌%◌, ◌^◌, min, max, length, take, drop, replicate, ltb, leb, eqb, Option, None, Some}
 use Rattle.stun_frame.specs.declared.classes.Class.{Class}
 use Rattle.stun_frame.specs.declared.classes.Class.TheVariants.{Request, Indication, Success, Error}
-use Rattle.stun_frame.specs.declared.Channel.{Channel}
-use Rattle.stun_frame.specs.declared.Channel.TheVariants.{Data as ChannelOf, Nothing as NoChannel}
+use Rattle.stun_frame.specs.declared.ChannelData.{ChannelData}
 use Rattle.stun_frame.specs.Source.{class, field_at, padding, encode_channel_data, decode_channel_data}
 use Rattle.stun_address.specs.declared.Ip.{Ip}
 use Rattle.stun_address.specs.declared.Ip.TheVariants.{V4, V6}
 use Rattle.stun_address.specs.declared.Address.{Address}
-use Rattle.stun_address.specs.declared.Peer.{Peer}
-use Rattle.stun_address.specs.declared.Peer.TheVariants.{At, Nothing as NoPeer}
 use Rattle.stun_address.specs.Source.{to_be, encode_xor_addr}
 use Rattle.stun_text.specs.Utf8.{replaced}
-use Rattle.stun_walk.specs.declared.Found.{Found}
-use Rattle.stun_walk.specs.declared.Found.TheVariants.{At as Lies, Nothing as Missing}
-use Rattle.stun_walk.specs.declared.Code.{Code}
-use Rattle.stun_walk.specs.declared.Code.TheVariants.{Error as Coded, NoCode}
-use Rattle.stun_walk.specs.declared.Granted.{Granted}
-use Rattle.stun_walk.specs.declared.Granted.TheVariants.{Seconds, NoLifetime}
-use Rattle.stun_walk.specs.Source.{readable, get_of, error_code_of, lifetime_of, xor_addr_of}
+use Rattle.stun_walk.specs.declared.Value.{Value}
+use Rattle.stun_walk.specs.Source.{value_in, readable, get_of, error_code_of, lifetime_of, xor_addr_of}
 use Rattle.stun_check.specs.Source.{same, verified, long_term}
 use Rattle.stun_write.specs.Source.{Attribute, attributes, Key, unsigned, signed, encoded}
 use Rattle.turn_state.specs.declared.Kind.{Kind}
@@ -81,7 +72,7 @@ of_number num c = eqb c.num num
 
 -- by_num.get(&num), as the channels tell it: the peer of the channel that has the number
 abbrev pub peer_of : ℕ → List Chan → Option Address
-peer_of num l = if_let (get (of_number num) l) (λ c. some c.peer) none
+peer_of num l = if_let (get (of_number num) l) (λ c. Some c.peer) None
 
 -- the maps' insert, where a record that is added is reported with what its table holds at that moment
 abbrev pub add : Bool → ℕ → ℕ → Run → Run
@@ -109,12 +100,12 @@ new username password reliable =
     record {
       username = username;
       password = password;
-      realm = none;
-      nonce = none;
-      key = none;
-      relay = none;
+      realm = None;
+      nonce = None;
+      key = None;
+      relay = None;
       done = false;
-      refresh_at = none;
+      refresh_at = None;
       txns = [];
       perms = [];
       chans = [];
@@ -129,9 +120,9 @@ attr t v = record { typ = t; value = v }
 
 -- with_auth: ATTR_USERNAME, ATTR_REALM, ATTR_NONCE, if realm and nonce are held
 abbrev pub auth : List ℕ → Option (List ℕ) → Option (List ℕ) → List Attribute
-auth username (some realm) (some nonce) = attr 0x0006 username ∷ attr 0x0014 realm ∷ attr 0x0015 nonce ∷ []
-auth username (some realm) none = []
-auth username none _ = []
+auth username (Some realm) (Some nonce) = attr 0x0006 username ∷ attr 0x0014 realm ∷ attr 0x0015 nonce ∷ []
+auth username (Some realm) None = []
+auth username None _ = []
 
 abbrev pub with_auth : Turn → Message → Message
 with_auth c m = record { typ = m.typ; tid = m.tid; attrs = m.attrs ++ auth c.username c.realm c.nonce }
@@ -142,8 +133,8 @@ encode_message m key fingerprint = encoded m.typ m.tid (attributes m.attrs) key 
 
 -- self.key.as_ref()
 abbrev pub signing : Option (List ℕ) → Key
-signing none = unsigned
-signing (some key) = signed key
+signing None = unsigned
+signing (Some key) = signed key
 
 -- encode
 abbrev pub encode : Turn → Message → List ℕ
@@ -182,7 +173,7 @@ bind_channel now peer s =
 -- create_permission: CREATE_PERMISSION_REQUEST with ATTR_XOR_PEER_ADDRESS, at port 0
 unfoldable pub create_permission : ℕ → Ip → Run → Run
 create_permission now ip s =
-    let asked = insert_perm (record { ip = ip; refresh = none }) s in
+    let asked = insert_perm (record { ip = ip; refresh = None }) s in
     let tid = new_tid asked in
     let attrs = attr 0x0012 (encode_xor_addr (record { ip = ip; port = 0 }) tid) ∷ [] in
     request now (Permission ip) (record { typ = 0x0008; tid = tid; attrs = attrs }) (drew asked)
@@ -203,9 +194,9 @@ abbrev pub refresh_time : ℕ → ℕ → ℕ
 refresh_time now lifetime = now + (max lifetime 120 - 60) * 1000
 
 -- msg.lifetime().unwrap_or(otherwise)
-abbrev pub granted_or : ℕ → Granted → ℕ
-granted_or otherwise (Seconds n) = n
-granted_or otherwise NoLifetime = otherwise
+abbrev pub granted_or : ℕ → Option ℕ → ℕ
+granted_or otherwise (Some n) = n
+granted_or otherwise None = otherwise
 
 -- self.chans.get_mut(peer): the channel is written where it stands
 abbrev pub update_chan : Address → (Chan → Chan) → Run → Run
@@ -225,35 +216,35 @@ abbrev pub waiting : Ip → Chan → Bool
 waiting ip c = same_ip c.peer.ip ip && not c.bound
 
 -- on_success, Kind::Allocate with ATTR_XOR_RELAYED_ADDRESS and ATTR_XOR_MAPPED_ADDRESS
-abbrev pub allocated : ℕ → List ℕ → Peer → Run → Run
-allocated now buf NoPeer s = on_failure Allocate NoRelayedAddress s
-allocated now buf (At relay) s =
+abbrev pub allocated : ℕ → List ℕ → Option Address → Run → Run
+allocated now buf None s = on_failure Allocate NoRelayedAddress s
+allocated now buf (Some relay) s =
     tell (Allocated relay (xor_addr_of buf 0x0020))
-    (on_self (λ c. set_done true (set_relay (some relay) (set_refresh_at (some (refresh_time now (granted_or 600 (lifetime_of buf)))) c))) s)
+    (on_self (λ c. set_done true (set_relay (Some relay) (set_refresh_at (Some (refresh_time now (granted_or 600 (lifetime_of buf)))) c))) s)
 
 unfoldable pub on_success : ℕ → Kind → List ℕ → Run → Run
 on_success now Allocate buf s = allocated now buf (xor_addr_of buf 0x0016) s
 on_success now (Refresh lifetime) buf s =
-    cond (ltb 0 lifetime) (on_self (set_refresh_at (some (refresh_time now (granted_or lifetime (lifetime_of buf))))) s) s
+    cond (ltb 0 lifetime) (on_self (set_refresh_at (Some (refresh_time now (granted_or lifetime (lifetime_of buf))))) s) s
 on_success now (Permission ip) buf s =
-    let permitted = insert_perm (record { ip = ip; refresh = some (now + PERMISSION_REFRESH) }) s in
+    let permitted = insert_perm (record { ip = ip; refresh = Some (now + PERMISSION_REFRESH) }) s in
     each (bind_channel now) (map (λ c. c.peer) (filter (waiting ip) permitted.self.chans)) permitted
 on_success now (ChannelBind peer num) buf s = update_chan peer (bound_at now num) s
 
 -- msg.error_code().unwrap_or(0)
-abbrev pub code_or_0 : Code → ℕ
-code_or_0 (Coded n) = n
-code_or_0 NoCode = 0
+abbrev pub code_or_0 : Option ℕ → ℕ
+code_or_0 (Some n) = n
+code_or_0 None = 0
 
 -- matches!(msg.error_code(), Some(400 | 401 | 438))
-abbrev pub exempt : Code → Bool
-exempt (Coded n) = eqb n 400 || eqb n 401 || eqb n 438
-exempt NoCode = false
+abbrev pub exempt : Option ℕ → Bool
+exempt (Some n) = eqb n 400 || eqb n 401 || eqb n 438
+exempt None = false
 
 -- msg.get_str(t): the value with each maximal ill-formed subpart replaced
-abbrev pub text_found : List ℕ → Found → Option (List ℕ)
-text_found buf (Lies start len) = some (replaced (take len (drop start buf)))
-text_found buf Missing = none
+abbrev pub text_found : List ℕ → Option Value → Option (List ℕ)
+text_found buf (Some v) = Some (replaced (value_in buf v))
+text_found buf None = None
 
 abbrev pub get_str : List ℕ → ℕ → Option (List ℕ)
 get_str buf t = text_found buf (get_of buf t)
@@ -263,13 +254,13 @@ abbrev pub take_realm : List ℕ → Run → Run
 take_realm buf s =
     if_let (get_str buf 0x0014)
     (λ realm. on_report (report_text (length realm))
-    (on_self (λ c. set_realm (some realm) (set_key (some (long_term c.username realm c.password)) c)) s))
+    (on_self (λ c. set_realm (Some realm) (set_key (Some (long_term c.username realm c.password)) c)) s))
     s
 
 -- if let Some(nonce) = msg.get_str(ATTR_NONCE)
 abbrev pub take_nonce : List ℕ → Run → Run
 take_nonce buf s =
-    if_let (get_str buf 0x0015) (λ nonce. on_report (report_text (length nonce)) (on_self (set_nonce (some nonce)) s)) s
+    if_let (get_str buf 0x0015) (λ nonce. on_report (report_text (length nonce)) (on_self (set_nonce (Some nonce)) s)) s
 
 -- the retry of a 401 or 438: a new id over the same attributes, tries 1
 unfoldable pub retry : ℕ → List ℕ → Txn → Run → Run
@@ -303,8 +294,8 @@ is_error Indication = false
 
 -- if let Some(key) = &self.key: what the check lets through
 abbrev pub passed : Option (List ℕ) → List ℕ → Class → Bool
-passed none buf cls = true
-passed (some key) buf cls = (is_error cls && exempt (error_code_of buf)) || verified buf key
+passed None buf cls = true
+passed (Some key) buf cls = (is_error cls && exempt (error_code_of buf)) || verified buf key
 
 -- msg.tid
 abbrev pub tid_of : List ℕ → List ℕ
@@ -319,10 +310,10 @@ answer now buf txn s =
     s
 
 -- DATA_INDICATION: ATTR_XOR_PEER_ADDRESS and ATTR_DATA
-abbrev pub indicated : Peer → Found → Run → Run
-indicated (At peer) (Lies start len) s = tell (Data peer start len) s
-indicated (At peer) Missing s = s
-indicated NoPeer found s = s
+abbrev pub indicated : Option Address → Option Value → Run → Run
+indicated (Some peer) (Some v) s = tell (Data peer v.start v.len) s
+indicated (Some peer) None s = s
+indicated None found s = s
 
 -- handle, once it is not ChannelData
 abbrev pub handle_message : ℕ → List ℕ → Run → Run
@@ -330,9 +321,9 @@ handle_message now buf s =
     cond (eqb (field_at buf 0) 0x0017) (indicated (xor_addr_of buf 0x0012) (get_of buf 0x0013) s)
     (if_let (get (under_id (tid_of buf)) s.self.txns) (λ txn. answer now buf txn s) s)
 
-abbrev pub handle_channel : ℕ → List ℕ → Channel → Run → Run
-handle_channel now buf (ChannelOf num start len) s = if_let (get (of_number num) s.self.chans) (λ c. tell (Data c.peer start len) s) s
-handle_channel now buf NoChannel s = cond (readable buf) (handle_message now buf s) s
+abbrev pub handle_channel : ℕ → List ℕ → Option ChannelData → Run → Run
+handle_channel now buf (Some d) s = if_let (get (of_number d.number) s.self.chans) (λ c. tell (Data c.peer d.start d.len) s) s
+handle_channel now buf None s = cond (readable buf) (handle_message now buf s) s
 
 -- handle
 unfoldable pub handle : ℕ → List ℕ → Run → Run
@@ -393,14 +384,14 @@ poll_due now tid s =
 
 -- r.map(|r| r <= now).unwrap_or(false)
 abbrev pub is_due : ℕ → Option ℕ → Bool
-is_due now none = false
-is_due now (some at) = leb at now
+is_due now None = false
+is_due now (Some at) = leb at now
 
 -- the allocation's Refresh
 unfoldable pub poll_refresh : ℕ → Run → Run
 poll_refresh now s =
     cond (is_due now s.self.refresh_at)
-    (request now (Refresh 600) (refresh_message 600 (new_tid s)) (drew (on_self (set_refresh_at none) s)))
+    (request now (Refresh 600) (refresh_message 600 (new_tid s)) (drew (on_self (set_refresh_at None) s)))
     s
 
 -- for ip in perms, and for peer in chans
@@ -426,21 +417,21 @@ poll now s =
 
 -- d.map_or(x, |d| d.min(x)), where there is an x
 abbrev pub consider : Option ℕ → Option ℕ → Option ℕ
-consider none d = d
-consider (some x) none = some x
-consider (some x) (some d) = some (min d x)
+consider None d = d
+consider (Some x) None = Some x
+consider (Some x) (Some d) = Some (min d x)
 
 -- the least of a list, as iter().min()
 abbrev pub least : List (Option ℕ) → Option ℕ
-least [] = none
+least [] = None
 least (x ∷ xs) = consider x (least xs)
 
 -- next_deadline
 abbrev pub next_deadline : Turn → Option ℕ
 next_deadline c =
-    let d = least (map (λ t. some t.next) c.txns) in
+    let d = least (map (λ t. Some t.next) c.txns) in
     cond c.closing d
-    (consider (least (map (λ c. cond c.bound (some c.refresh_at) none) c.chans))
+    (consider (least (map (λ c. cond c.bound (Some c.refresh_at) None) c.chans))
     (consider (least (map (λ p. p.refresh) c.perms)) (consider c.refresh_at d)))
 
 -- transport_failed

@@ -1,7 +1,6 @@
 -- What turn.rs holds (struct TurnClient and what it is made of), over plain lists and without limits, and what a call's run keeps
 -- beside it: what it sends and tells, and the report of what it used. Maps stand in the order in which their records came.
-use Rattle.std.specs.Prelude.{Bool, cond, List, [], ◌∷◌, ◌++◌, ℕ, ◌*◌, ◌/◌, length, take, drop, ltb}
-use Rattle.std.proofs.Math.Option.{Option}
+use Rattle.std.specs.Prelude.{Bool, cond, List, [], ◌∷◌, ◌++◌, ℕ, ◌*◌, ◌/◌, length, take, drop, ltb, Option}
 use Rattle.stun_address.specs.declared.Ip.{Ip}
 use Rattle.stun_address.specs.declared.Address.{Address}
 use Rattle.stun_write.specs.Source.{Attribute}

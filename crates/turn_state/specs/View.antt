@@ -1,8 +1,7 @@
 -- What the code's structs mean in the definition, for every value of their types: a length above its room is read as the room, a
 -- family other than 2 as IPv4, a tag above 3 as ChannelBind. `Tidy` is what an opening gives and every call keeps: zeros and blank rows
 -- after a length, nothing in what is not held. Of two tidy clients that mean the same one each is the other.
-use Rattle.std.specs.Prelude.{◌≡◌, Bool, true, false, cond, List, [], ◌∷◌, ◌++◌, map, ℕ, ◌-◌, ◌/◌, ◌%◌, ◌^◌, ◌≤◌, length, take, drop, replicate, eqb}
-use Rattle.std.proofs.Math.Option.{Option, none, some}
+use Rattle.std.specs.Prelude.{◌≡◌, Bool, true, false, cond, List, [], ◌∷◌, ◌++◌, map, ℕ, ◌-◌, ◌/◌, ◌%◌, ◌^◌, ◌≤◌, length, take, drop, replicate, eqb, Option, None, Some, Result, Ok, Err}
 use Rattle.stun_address.specs.declared.Ip.{Ip}
 use Rattle.stun_address.specs.declared.Ip.TheVariants.{V4, V6}
 use Rattle.stun_address.specs.declared.Address.{Address}
@@ -12,7 +11,6 @@ use Rattle.stun_write.specs.Source.{Attribute}
 use Rattle.turn_state.specs.declared.Kind.{Kind}
 use Rattle.turn_state.specs.declared.Kind.TheVariants.{Allocate, Refresh, Permission as Permit, ChannelBind}
 use Rattle.turn_state.specs.declared.Event.{Event}
-use Rattle.turn_state.specs.declared.Event.TheVariants.{Nothing}
 use Rattle.turn_state.specs.declared.Host.{Host}
 use Rattle.turn_state.specs.declared.Place.{Place}
 use Rattle.turn_state.specs.declared.Asked.{Asked}
@@ -25,9 +23,10 @@ use Rattle.turn_state.specs.declared.Channels.{Channels}
 use Rattle.turn_state.specs.declared.Credentials.{Credentials}
 use Rattle.turn_state.specs.declared.Client.{Client}
 use Rattle.turn_state.specs.declared.Answer.{Answer}
+use Rattle.turn_state.specs.declared.Refusal.{Refusal}
 use Rattle.turn_state.specs.State.{Message, Txn, Perm, Chan, Turn}
 use Rattle.turn_state.specs.Source.{attr, SOFTWARE}
-use Rattle.turn_state.specs.Number.{Outcome, framed}
+use Rattle.turn_state.specs.Number.{Outcome, framed, number_of}
 use Rattle.turn_state.specs.Sequence.{Call, outcome}
 
 -- addresses and kinds as numbers, and back
@@ -92,8 +91,8 @@ txn_in r =
 
 -- what is held by a flag
 abbrev pub held : {A : Type 0} → Bool → A → Option A
-held false a = none
-held true a = some a
+held false a = None
+held true a = Some a
 
 abbrev pub perm_in : Permission → Perm
 perm_in p = record { ip = ip_in p.host; refresh = held p.granted p.at }
@@ -219,17 +218,44 @@ pub record Tidy (c : Client) : Type 0 where
   pub no_refresh : absent c.has_refresh 0 c.refresh_at
 
 -- the event that a caller is told of
-abbrev pub told : List Event → Event
-told [] = Nothing
-told (e ∷ more) = e
+abbrev pub told : List Event → Option Event
+told [] = None
+told (e ∷ more) = Some e
 
--- what a refused call answers
-abbrev pub refused_answer : Client → ℕ → Answer
-refused_answer c n = record { client = c; refusal = n; event = Nothing; events = 0; packets = 0; len = 0 }
+-- answers: nothing told and nothing written, one event, packets of so many bytes
+abbrev pub quiet : Client → Answer
+quiet c = record { client = c; event = None; events = 0; packets = 0; len = 0 }
+
+abbrev pub telling : Client → Event → Answer
+telling c e = record { client = c; event = Some e; events = 1; packets = 0; len = 0 }
+
+abbrev pub sending : Client → ℕ → ℕ → Answer
+sending c packets len = record { client = c; event = None; events = 0; packets = packets; len = len }
+
+-- what a caller has after a call: the client, the number, 0 where the call was done, and what it was told and sent
+pub record Reply : Type 0 where
+  pub client : Client
+  pub refusal : ℕ
+  pub event : Option Event
+  pub events : ℕ
+  pub packets : ℕ
+  pub len : ℕ
+
+abbrev pub done : Answer → Reply
+done a = record { client = a.client; refusal = 0; event = a.event; events = a.events; packets = a.packets; len = a.len }
+
+-- refused: the client that the caller gave, nothing told, nothing written
+abbrev pub refused : Client → ℕ → Reply
+refused c n = record { client = c; refusal = n; event = None; events = 0; packets = 0; len = 0 }
+
+-- after a call of `before`
+abbrev pub reply_of : Client → Result Answer Refusal → Reply
+reply_of before (Ok a) = done a
+reply_of before (Err r) = refused before (number_of r)
 
 -- a call of `before` answered as the definition does: `due` is what that gives, `out` the lent output, `after` what it holds then.
--- Refused, the client is handed back as it was.
-pub record Meets (before : Client) (due : Outcome) (out : List ℕ) (r : Answer) (after : List ℕ) : Type 0 where
+-- Refused, the client is the one that was given.
+pub record Meets (before : Client) (due : Outcome) (out : List ℕ) (r : Reply) (after : List ℕ) : Type 0 where
   pub refusal : r.refusal ≡ due.refusal
   pub client : view r.client ≡ due.client
   pub kept : either (eqb due.refusal 0) (Unit {0}) (r.client ≡ before)
@@ -240,9 +266,9 @@ pub record Meets (before : Client) (due : Outcome) (out : List ℕ) (r : Answer)
   pub len : r.len ≡ length (framed due.packets)
   pub output : after ≡ framed due.packets ++ drop (length (framed due.packets)) out
 
--- what the contract of a call allows: `client` is called with the output `out`, `r` is the answer, and `after` is what `out` holds then.
--- Each call ensures it under this name, and so what is said of it (crates/demands) is said of the code.
-abbrev pub Allows : Client → Call → List ℕ → Answer → List ℕ → Type 0
+-- what the contract of a call allows: `client` is called with the output `out`, `r` is what the caller has then, and `after` what `out`
+-- holds. Each call ensures it under this name, of its result's `reply_of`, and so what is said of it (crates/demands) is said of the code.
+abbrev pub Allows : Client → Call → List ℕ → Reply → List ℕ → Type 0
 Allows client call out r after = Meets client (outcome (view client) call) out r after
 
 -- the id under which a request's peer is encoded has 12 bytes

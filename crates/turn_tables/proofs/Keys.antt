@@ -1,15 +1,13 @@
 -- What a position says of the definition's maps: where there is one, `get`, `insert` and `remove` are what they are at an index; where
 -- there is none, nothing is got and what is inserted goes last.
+use Rattle.std.specs.Prelude.{Option, Some, None}
 use mathlib.Core.Path.{◌≡◌, refl, ap}
 use mathlib.Core.Bool.{Bool, true, false, cond}
 use mathlib.Core.List.{List, [], ◌∷◌, ◌++◌}
-use mathlib.Core.Option.{none, some}
 use Prim.Native.Nat.{ℕ, suc, ◌<◌}
 use native.Mathlib.Omega.{arith}
 use lib.ListN.{length, take, drop, get_or, set}
 use Rattle.turn_state.specs.Maps.{get, contains, insert, remove}
-use Rattle.turn_tables.specs.declared.Position.{Position}
-use Rattle.turn_tables.specs.declared.Position.TheVariants.{At, Nowhere}
 use Rattle.turn_tables.specs.Rows.{later, position}
 
 module _ {R : Type 0} (is : R → Bool) where
@@ -22,22 +20,22 @@ module _ {R : Type 0} (is : R → Bool) where
     end : Lacks []
     other : {x : R} {xs : List R} → is x ≡ false → Lacks xs → Lacks (x ∷ xs)
 
-  step : (x : R) (xs : List R) (b : Bool) → is x ≡ b → (p : Position) → ((j : ℕ) → p ≡ At j → Stands xs j) → (i : ℕ)
-      → cond b (At 0) (later p) ≡ At i → Stands (x ∷ xs) i
+  step : (x : R) (xs : List R) (b : Bool) → is x ≡ b → (p : Option ℕ) → ((j : ℕ) → p ≡ Some j → Stands xs j) → (i : ℕ)
+      → cond b (Some 0) (later p) ≡ Some i → Stands (x ∷ xs) i
   step x xs true e p r i h = let z : 0 ≡ i = cc in rw (← z) (here e)
-  step x xs false e (At j) r i h = let z : suc j ≡ i = cc in rw (← z) (there e (r j refl))
-  step x xs false e Nowhere r i h = let z : ◌≡◌ {A = ℕ} 0 1 = cc in let no : ⊥ = omega arith in absurd no
+  step x xs false e (Some j) r i h = let z : suc j ≡ i = cc in rw (← z) (there e (r j refl))
+  step x xs false e None r i h = let z : ◌≡◌ {A = ℕ} 0 1 = cc in let no : ⊥ = omega arith in absurd no
 
-  stands : (l : List R) (i : ℕ) → position is l ≡ At i → Stands l i
+  stands : (l : List R) (i : ℕ) → position is l ≡ Some i → Stands l i
   stands [] i h = let z : ◌≡◌ {A = ℕ} 0 1 = cc in let no : ⊥ = omega arith in absurd no
   stands (x ∷ xs) i h = step x xs (is x) refl (position is xs) (stands xs) i h
 
-  pass : (x : R) (xs : List R) (b : Bool) → is x ≡ b → (p : Position) → (p ≡ Nowhere → Lacks xs) → cond b (At 0) (later p) ≡ Nowhere → Lacks (x ∷ xs)
+  pass : (x : R) (xs : List R) (b : Bool) → is x ≡ b → (p : Option ℕ) → (p ≡ None → Lacks xs) → cond b (Some 0) (later p) ≡ None → Lacks (x ∷ xs)
   pass x xs true e p r h = let z : ◌≡◌ {A = ℕ} 0 1 = cc in let no : ⊥ = omega arith in absurd no
-  pass x xs false e (At j) r h = let z : ◌≡◌ {A = ℕ} 0 1 = cc in let no : ⊥ = omega arith in absurd no
-  pass x xs false e Nowhere r h = other e (r refl)
+  pass x xs false e (Some j) r h = let z : ◌≡◌ {A = ℕ} 0 1 = cc in let no : ⊥ = omega arith in absurd no
+  pass x xs false e None r h = other e (r refl)
 
-  lacks : (l : List R) → position is l ≡ Nowhere → Lacks l
+  lacks : (l : List R) → position is l ≡ None → Lacks l
   lacks [] h = end
   lacks (x ∷ xs) h = pass x xs (is x) refl (position is xs) (lacks xs) h
 
@@ -49,7 +47,7 @@ module _ {R : Type 0} (is : R → Bool) where
   stands_is d (here e) = e
   stands_is d (there e s) = stands_is d s
 
-  stands_get : {l : List R} {i : ℕ} (d : R) → Stands l i → get is l ≡ some (get_or l i d)
+  stands_get : {l : List R} {i : ℕ} (d : R) → Stands l i → get is l ≡ Some (get_or l i d)
   stands_get d (here e) = rw e
   stands_get d (there e s) = let h = stands_get d s in rw e h
 
@@ -65,7 +63,7 @@ module _ {R : Type 0} (is : R → Bool) where
   stands_remove (here e) = rw e
   stands_remove (there {x = x} e s) = let h = stands_remove s in rw e (ap (λ (r : List R). x ∷ r) h)
 
-  lacks_get : {l : List R} → Lacks l → get is l ≡ none
+  lacks_get : {l : List R} → Lacks l → get is l ≡ None
   lacks_get end = refl
   lacks_get (other e s) = let h = lacks_get s in rw e h
 
@@ -82,14 +80,11 @@ module _ {R : Type 0} (is : R → Bool) where
   lacks_remove (other {x = x} e s) = let h = lacks_remove s in rw e (ap (λ (r : List R). x ∷ r) h)
 
   -- at a position
-  module _ (l : List R) (i : ℕ) (found : position is l ≡ At i) where
+  module _ (l : List R) (i : ℕ) (found : position is l ≡ Some i) where
     pub at_lt : i < length l
     at_lt = stands_lt (stands l i found)
 
-    pub at_is : (d : R) → is (get_or l i d) ≡ true
-    at_is d = stands_is d (stands l i found)
-
-    pub at_get : (d : R) → get is l ≡ some (get_or l i d)
+    pub at_get : (d : R) → get is l ≡ Some (get_or l i d)
     at_get d = stands_get d (stands l i found)
 
     pub at_contains : contains is l ≡ true
@@ -102,8 +97,8 @@ module _ {R : Type 0} (is : R → Bool) where
     at_remove = stands_remove (stands l i found)
 
   -- nowhere
-  module _ (l : List R) (missing : position is l ≡ Nowhere) where
-    pub nowhere_get : get is l ≡ none
+  module _ (l : List R) (missing : position is l ≡ None) where
+    pub nowhere_get : get is l ≡ None
     nowhere_get = lacks_get (lacks l missing)
 
     pub nowhere_contains : contains is l ≡ false

@@ -1,5 +1,4 @@
 -- The laws of the tables' rows: what others cite is in Keys (positions and the definition's maps), Views (over any rows), Laws (the three tables) and Dues (what is listed).
-pub mod Bytes
 pub mod Search
 pub mod Moves
 pub mod Keys
@@ -8,4 +7,3 @@ pub mod Neat
 pub mod Laws
 pub mod Listing
 pub mod Dues
-pub mod Requests

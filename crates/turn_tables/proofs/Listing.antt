@@ -85,6 +85,12 @@ module _ {R X : Type 0} (test : R → Bool) (g : R → X) (room : ℕ) (blank : 
     pub listed_room : len ≤ i
     listed_room = rw so.len_is (omega (arith, listed_le test g rows i))
 
+    pub listed_fits : i < length rows → i < room → len < length out
+    listed_fits h k =
+        let n = listed_room in
+        let full : length out ≡ room = ap length so.rows_are ∙ filled_length room blank (listed test g rows i) (omega (arith, listed_le test g rows i)) in
+        omega arith
+
     pub listed_more : (d : R) (b : Bool) (x : X) → i < length rows → i < room → b ≡ test (get_or rows i d) → x ≡ g (get_or rows i d)
         → Listed test g room blank rows (i + 1) (noted b out len x) (cond b (len + 1) len)
     listed_more d b x h k eb ex =

@@ -1,7 +1,7 @@
 -- What a table shows once a row is put last, replaced or taken out: over any rows, any meaning of a row, any room.
+use Rattle.std.specs.Prelude.{Some, None}
 use mathlib.Core.Path.{◌≡◌, refl, sym, ap, ap₂, ◌∙◌}
 use mathlib.Core.Bool.{Bool, true, false, cond}
-use mathlib.Core.Option.{some}
 use mathlib.Core.List.{List, [], ◌∷◌, ◌++◌, map, append_assoc}
 use Prim.Native.Nat.{ℕ, zero, suc, ◌+◌, ◌-◌, ◌≤◌, ◌<◌, min}
 use native.Mathlib.Numerals.{add-one}
@@ -12,7 +12,6 @@ use lib.Dec.{ltb}
 use borrow.Author.Tests.{ltb-true, ltb-false}
 use Rattle.turn_tables.specs.Rows.{closed, position}
 use Rattle.turn_state.specs.Maps.{get, insert, remove}
-use Rattle.turn_tables.specs.declared.Position.TheVariants.{At, Nowhere}
 use Rattle.turn_tables.proofs.Search.{take-least}
 use Rattle.turn_tables.proofs.Keys.{at_lt, at_get, at_insert, at_remove, nowhere_insert}
 
@@ -87,23 +86,23 @@ module _ {R W : Type 0} (f : R → W) (rows : List R) (len room : ℕ) (full : l
 
   -- together with the definition's maps, by any test of a record
   module _ (is : W → Bool) where
-    pub found_row : (i : ℕ) → position is (map f (take len rows)) ≡ At i → i < min len room
+    pub found_row : (i : ℕ) → position is (map f (take len rows)) ≡ Some i → i < min len room
     found_row i found = rw (← shown_length) (at_lt is (map f (take len rows)) i found)
 
-    pub shown_get : (i : ℕ) (d : R) → position is (map f (take len rows)) ≡ At i → get is (map f (take len rows)) ≡ some (f (get_or rows i d))
+    pub shown_get : (i : ℕ) (d : R) → position is (map f (take len rows)) ≡ Some i → get is (map f (take len rows)) ≡ Some (f (get_or rows i d))
     shown_get i d found =
-        at_get is (map f (take len rows)) i found (f d) ∙ ap (λ (w : W). some w) (shown_row i d (found_row i found))
+        at_get is (map f (take len rows)) i found (f d) ∙ ap (λ (w : W). Some w) (shown_row i d (found_row i found))
 
-    pub shown_added : (row : R) → position is (map f (take len rows)) ≡ Nowhere → len < room
+    pub shown_added : (row : R) → position is (map f (take len rows)) ≡ None → len < room
         → map f (take (len + 1) (set rows len row)) ≡ insert is (f row) (map f (take len rows))
     shown_added row missing h = shown_pushed row h ∙ sym (nowhere_insert is (map f (take len rows)) missing (f row))
 
-    pub shown_replaced : (i : ℕ) (row : R) → position is (map f (take len rows)) ≡ At i
+    pub shown_replaced : (i : ℕ) (row : R) → position is (map f (take len rows)) ≡ Some i
         → map f (take len (set rows i row)) ≡ insert is (f row) (map f (take len rows))
     shown_replaced i row found =
         shown_put i row (found_row i found) ∙ sym (at_insert is (map f (take len rows)) i found (f row))
 
-    pub shown_taken : (i : ℕ) (blank : R) → position is (map f (take len rows)) ≡ At i
+    pub shown_taken : (i : ℕ) (blank : R) → position is (map f (take len rows)) ≡ Some i
         → map f (take (min len room - 1) (closed blank (min len room) rows i)) ≡ remove is (map f (take len rows))
     shown_taken i blank found =
         shown_removed i blank (found_row i found) ∙ sym (at_remove is (map f (take len rows)) i found)

@@ -1,5 +1,5 @@
 -- What is listed at an entry: of the rows that a test accepts, in the table's order; blank rows after them.
-use Rattle.std.specs.Prelude.{Bool, cond, ◌&&◌, List, map, ℕ, ◌+◌, length, take, leb}
+use Rattle.std.specs.Prelude.{Bool, ◌&&◌, List, map, ℕ, length, take, leb}
 use Rattle.stun_address.specs.declared.Ip.{Ip}
 use Rattle.turn_state.specs.declared.Host.{Host}
 use Rattle.turn_state.specs.declared.Place.{Place}
@@ -16,7 +16,7 @@ use Rattle.turn_tables.specs.declared.Id.{Id}
 use Rattle.turn_tables.specs.declared.Ids.{Ids}
 use Rattle.turn_tables.specs.declared.Hosts.{Hosts}
 use Rattle.turn_tables.specs.declared.Places.{Places}
-use Rattle.turn_tables.specs.Rows.{filled, noted}
+use Rattle.turn_tables.specs.Rows.{filled}
 
 abbrev pub id_of : List ℕ → Id
 id_of bytes = record { bytes = bytes }
@@ -30,16 +30,6 @@ hosts_of l = record { rows = filled 32 nowhere.host l; len = length l }
 
 abbrev pub places_of : List Place → Places
 places_of l = record { rows = filled 32 nowhere l; len = length l }
-
--- with one more, where it is wanted
-abbrev pub noted_id : Ids → Bool → List ℕ → Ids
-noted_id l wanted id = record { rows = noted wanted l.rows l.len (id_of id); len = cond wanted (l.len + 1) l.len }
-
-abbrev pub noted_host : Hosts → Bool → Host → Hosts
-noted_host l wanted host = record { rows = noted wanted l.rows l.len host; len = cond wanted (l.len + 1) l.len }
-
-abbrev pub noted_place : Places → Bool → Place → Places
-noted_place l wanted place = record { rows = noted wanted l.rows l.len place; len = cond wanted (l.len + 1) l.len }
 
 -- what is due, and what waits
 abbrev pub due_request : ℕ → Request → Bool

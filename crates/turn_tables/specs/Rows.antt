@@ -1,18 +1,17 @@
 -- Where a record stands in a list, a list of rows from which one is taken out, and rows listed one after the other: over any rows.
+use Rattle.std.specs.Prelude.{Option, Some, None}
 use Rattle.std.specs.Prelude.{Bool, cond, List, [], ◌∷◌, ◌++◌, ℕ, suc, ◌-◌, length, take, drop, set, replicate}
-use Rattle.turn_tables.specs.declared.Position.{Position}
-use Rattle.turn_tables.specs.declared.Position.TheVariants.{At, Nowhere}
 
 -- the same place, one further on
-abbrev pub later : Position → Position
-later (At i) = At (suc i)
-later Nowhere = Nowhere
+abbrev pub later : Option ℕ → Option ℕ
+later (Some i) = Some (suc i)
+later None = None
 
 module _ {R : Type 0} where
   -- the index of the first record that the test accepts
-  abbrev pub position : (R → Bool) → List R → Position
-  position is [] = Nowhere
-  position is (r ∷ more) = cond (is r) (At 0) (later (position is more))
+  abbrev pub position : (R → Bool) → List R → Option ℕ
+  position is [] = None
+  position is (r ∷ more) = cond (is r) (Some 0) (later (position is more))
 
   -- of the first n rows the one at i is taken out: those after it move down, a blank one follows them
   abbrev pub closed : R → ℕ → List R → ℕ → List R

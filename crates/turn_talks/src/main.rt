@@ -3,6 +3,7 @@
 // that the client's state stands below the last call only. The file `stdout` is what the Rust original answers to the same tapes.
 #![tactic(auto)]
 
+use player::Detail;
 use std::io;
 use std::io::{Input, Read};
 
@@ -12,24 +13,25 @@ fn next_tape(rt: &(impl Input + Print), number: u64, room: &mut [u8]) -> io::Res
     if rt.reader().read_exact(&mut head).is_err() {
         return Ok(false);
     }
-    let len = (player::joined(&head) % 4294967296) as usize;
+    let len = u32::from_be_bytes(head) as usize;
     if room.len() < len {
         return Ok(false);
     }
-    if rt.reader().read_exact(&mut room[0..len]).is_err() {
+    if rt.reader().read_exact(&mut room[..len]).is_err() {
         return Ok(false);
     }
     println!(rt; "tape {number}")?;
-    player::play_whole(rt, room, len);
+    player::play_whole(rt, Detail::Calls, room, len)?;
     Ok(true)
 }
 
-// A proved loop has to end: it counts the tapes up to a number that no input reaches.
+// A proved loop has to end: this one counts the tapes up to a number that no input reaches.
 fn main(rt: HostRuntime) -> io::Result<()> {
     let mut room = [0u8; 65536];
-    let mut n: u64 = 0;
-    while n < 18446744073709551615 && next_tape(&rt, n + 1, &mut room)? {
-        n += 1;
+    for number in 1..u64::MAX {
+        if !next_tape(&rt, number, &mut room)? {
+            break;
+        }
     }
     Ok(())
 }

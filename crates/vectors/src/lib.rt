@@ -2,24 +2,17 @@
 // the lines that they print.
 #![tactic(auto)]
 
-mod line;
-
 ghost use Rattle.std.specs.Prelude.{◌≡◌, length};
 
-use line::Line;
-use std::io;
-
-// How many cuts `cut` has.
-pub const CUTS: usize = 19;
+use std::convert::AsSlice;
+use std::{fmt, io};
 
 // The byte of index i is (start + step * i) mod 256.
 pub fn fill(out: &mut [u8], start: u8, step: u8) {
-    let mut b = start as u32;
-    let mut i = 0;
-    while i < out.len() {
-        out[i] = b as u8;
-        b = (b + step as u32) % 256;
-        i += 1;
+    let mut b = start;
+    for place in out {
+        *place = b;
+        b = b.wrapping_add(step);
     }
 }
 
@@ -42,62 +35,71 @@ pub fn key() -> [u8; 131]
 }
 
 // Where the second part begins: about the end of a block of 64 bytes, and about byte 56 of a block,
-// where the message's length goes. An i that is too large has the last of the cuts.
-pub fn cut(i: usize) -> usize {
-    match i {
-        0 => 1,
-        1 => 55,
-        2 => 56,
-        3 => 57,
-        4 => 63,
-        5 => 64,
-        6 => 65,
-        7 => 119,
-        8 => 120,
-        9 => 121,
-        10 => 127,
-        11 => 128,
-        12 => 129,
-        13 => 191,
-        14 => 192,
-        15 => 193,
-        16 => 255,
-        17 => 256,
-        _ => 257,
+// where the message's length goes.
+static CUTS: [usize; 19] = [
+    1, 55, 56, 57, 63, 64, 65, 119, 120, 121, 127, 128, 129, 191, 192, 193, 255, 256, 257,
+];
+
+// Each byte as two hexadecimal digits.
+#[derive(Clone, Copy)]
+struct Hex<'a>(&'a [u8]);
+
+impl fmt::Display for Hex<'_> {
+    fn fmt<W: fmt::Write>(&self, f: &mut fmt::Formatter<W>) -> fmt::Result {
+        for b in self.0 {
+            write!(f, "{b:02x}")?;
+        }
+        Ok(())
     }
 }
 
-// NAME HEX
+// NAME HEX. The name is bytes, as the programs write it: other crates' programs call this too.
 pub fn print_named(rt: &impl Print, name: &[u8], digest: &[u8]) -> io::Result<()> {
-    Line::new().text(name).text(b" ").hex(digest).print(rt)
+    rt.write_all(name)?;
+    println!(rt; " {}", Hex(digest))
 }
 
 // N HEX, for a message of n bytes in one part.
 pub fn print_whole(rt: &impl Print, n: usize, digest: &[u8]) -> io::Result<()> {
-    Line::new().number(n).text(b" ").hex(digest).print(rt)
+    println!(rt; "{n} {}", Hex(digest))
 }
 
-// N C HEX, for a message of n bytes in two parts, the first of c bytes.
-pub fn print_cut(rt: &impl Print, n: usize, c: usize, digest: &[u8]) -> io::Result<()> {
-    Line::new()
-        .number(n)
-        .text(b" ")
-        .number(c)
-        .text(b" ")
-        .hex(digest)
-        .print(rt)
+// N C HEX for the message in two parts, the first of c bytes, at each cut; and N 1 64 129 HEX for it
+// in four parts, cut at these three. `digest` takes the parts.
+pub fn print_parts<D: AsSlice<u8> + Drop, F: Fn(&[&[u8]]) -> D>(
+    rt: &impl Print,
+    m: &[u8],
+    digest: &F,
+) -> io::Result<()>
+    requires { F.IsAlwaysCallable digest.now }
+{
+    let n = m.len();
+    for &c in &CUTS {
+        if c <= n {
+            let d = digest(&[&m[..c], &m[c..]]);
+            println!(rt; "{n} {c} {}", Hex(d.as_slice()))?;
+        }
+    }
+    if n >= 130 {
+        let d = digest(&[&m[..1], &m[1..64], &m[64..129], &m[129..]]);
+        println!(rt; "{n} 1 64 129 {}", Hex(d.as_slice()))?;
+    }
+    Ok(())
 }
 
-// N 1 64 129 HEX, for a message of n bytes in four parts, cut at these three.
-pub fn print_four(rt: &impl Print, n: usize, digest: &[u8]) -> io::Result<()> {
-    Line::new()
-        .number(n)
-        .text(b" 1 64 129 ")
-        .hex(digest)
-        .print(rt)
-}
-
-// key K, above the lines of the messages under a key of k bytes.
-pub fn print_key(rt: &impl Print, k: usize) -> io::Result<()> {
-    Line::new().text(b"key ").number(k).print(rt)
+// The lines of messages of each length from 0 to 260, in one part, in two and in four.
+pub fn print_messages<D: AsSlice<u8> + Drop, W: Fn(&[u8]) -> D, F: Fn(&[&[u8]]) -> D>(
+    rt: &impl Print,
+    whole: W,
+    parts: F,
+) -> io::Result<()>
+    requires whole { W.IsAlwaysCallable whole }
+    requires parts { F.IsAlwaysCallable parts }
+{
+    let m = message();
+    for n in 0..=m.len() {
+        print_whole(rt, n, whole(&m[..n]).as_slice())?;
+        print_parts(rt, &m[..n], &parts)?;
+    }
+    Ok(())
 }

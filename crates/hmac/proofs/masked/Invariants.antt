@@ -1,13 +1,6 @@
-use mathlib.Core.Path.{◌≡◌}
-use Prim.Native.Nat.{◌-◌, ◌≤◌}
-use mathlib.Core.List.{map}
-use lib.ListN.{take}
-use lib.Bits.{bit_xor}
-use Rattle.digest.proofs.Fill.{onto}
+-- The first bytes are masked, and the others wait.
+use Rattle.std.proofs.Common.{◌≡◌, ◌++◌, take, drop, map, bit_xor}
 use Rattle.hmac.proofs.masked.Given as goal
 
-abbrev pub invariant-loop-i : goal.invariant-loop-i
-invariant-loop-i l = (l.i ≤ 64) × (l.out ≡ onto 64 (take l.i (map (λ x. bit_xor x l.b) l.block)))
-
-abbrev pub decreases-loop-i : goal.decreases-loop-i
-decreases-loop-i l = 64 - l.i
+abbrev pub invariant-loop-x : goal.invariant-loop-x
+invariant-loop-x l = l.x-items ≡ map (λ x. bit_xor x l.b) (take l.x-index l.fn.block) ++ drop l.x-index l.fn.block

@@ -7,7 +7,5 @@ use Rattle.stun_text.proofs.follow.Given as goal
 
 abbrev pub invariant-loop-k : goal.invariant-loop-k
 invariant-loop-k l =
-    (l.k ≤ l.more) × (l.at + l.k ≤ length l.s) × (agree (following l.more l.low l.high) (drop l.at l.s) ≡ l.k + agree (following (l.more - l.k) l.lo l.hi) (drop (l.at + l.k) l.s))
-
-abbrev pub decreases-loop-k : goal.decreases-loop-k
-decreases-loop-k l = l.more - l.k
+    (l.k ≤ l.row.0) × (l.k ≤ length l.rest)
+    × (agree (following l.row.0 l.row.1 l.row.2) l.rest ≡ l.k + agree (following (l.row.0 - l.k) l.low l.high) (drop l.k l.rest))

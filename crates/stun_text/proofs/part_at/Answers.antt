@@ -4,7 +4,4 @@ use Rattle.stun_text.proofs.Table.{led}
 use Rattle.stun_text.proofs.part_at.Goals as goal
 
 pub returns : goal.returns
-returns c =
-    let a = c.args in
-    let r = c.row_of-row in
-    led a.s.now a.i r.result.0 r.result.1 r.result.2 c.follow.result.len c.follow.result.good (omega arith) r.ensures c.follow.ensures
+returns c = led c.args.s.now c.args.i _ _ _ c.follow.result (omega arith) c.row_of.ensures c.follow.ensures

@@ -1,13 +1,12 @@
 -- `stun_write::attr` meets its contract: head, value and zeros, one after the other.
-use lib.ListN.{length}
-use mathlib.Core.Path.{refl}
+use mathlib.Core.Path.{◌∙◌}
 use native.Mathlib.Omega.{arith}
+use borrow.Author.Rules.{rules}
 use Rattle.stun_write.proofs.Places.{attr_put}
-use Rattle.stun_frame.specs.Source.{padding}
 use Rattle.stun_write.proofs.attr.Goals as goal
 
 pub returns : goal.returns
 returns c =
-    let v = c.args.value.now in
-    attr_put c.args.typ v c.args.out.now c.put.new.out c.put-2.new.out c.put-3.new.out c.args.at (padding (length v))
-    (omega (arith, c.requires.1)) refl c.put.ensures c.put-2.ensures c.put-3.ensures
+    attr_put c.args.typ c.args.value.now c.args.out.now c.copy_from_slice.new.self c.copy_from_slice-2.new.self c.copy_from_slice-3.new.self c.fill.new.self c.args.at _ _ _ _ _
+    (search rules) c.requires.0 (omega (arith, c.requires.1)) (c.copy_from_slice.ensures.after ∙ c.to_be_bytes.ensures) (c.copy_from_slice-2.ensures.after ∙ c.to_be_bytes-2.ensures)
+    c.copy_from_slice-3.ensures.after (c.fill.ensures.after (λ y e. e)) (omega arith) (omega arith) (omega arith) (omega arith) (search rules)

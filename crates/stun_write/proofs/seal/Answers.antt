@@ -24,7 +24,7 @@ returns c =
     let m = encoded c.args.typ c.args.id (take n (drop 20 out)) (key_of c.args.signed c.args.key.now) c.args.fingerprint in
     let size : c.mark-b.result ≡ sealed_size n c.args.signed c.args.fingerprint = omega (arith, c, c.sign-a.ensures.0, c.mark-b.ensures.0) in
     equations (written out m (sealed_size n c.args.signed c.args.fingerprint) c.mark-b.result c.set_length.new.out size (omega (arith, c)) (omega (arith, c, c))
-    (sealed c.args.typ n c.after_header-at.result c.sign-a.result c.mark-b.result c.args.id c.args.key.now out
+    (sealed c.args.typ n c.max-at.result c.sign-a.result c.mark-b.result c.args.id c.args.key.now out
     c.begin.new.out c.sign-a.new.out c.mark-b.new.out c.set_length.new.out c.args.signed c.args.fingerprint
-    (omega (arith, c.well_formed)) c.after_header-at.ensures c.sign-a.ensures.0 c.mark-b.ensures.0 (omega (arith, c, c))
+    (omega (arith, c.well_formed)) (omega arith) c.sign-a.ensures.0 c.mark-b.ensures.0 (omega (arith, c, c))
     c.begin.ensures c.sign-a.ensures.1 c.mark-b.ensures.1 c.set_length.ensures))

@@ -1,22 +1,14 @@
--- `tape::next` meets its contract, test by test.
-use native.Mathlib.Omega.{arith}
-use mathlib.Core.Path.{◌∙◌}
-use Rattle.tape.proofs.Bodies.{next_end, next_empty, next_head, next_cut, next_whole}
+-- `tape::next`: a piece takes no more than the body.
+use Rattle.std.proofs.Common.{length-take-le, sym, arith}
+use Rattle.tape.proofs.Sizes.{meant_fits}
 use Rattle.tape.proofs.next.Goals as goal
 
-pub returns-then-ended : goal.returns-then-ended
-returns-then-ended c = next_end c.args.stage c.args.window.now c.args.ended c.if-have-eq0.true c.if-ended.true
+pub overflow_add-result-in-Some-whole : goal.overflow_add-result-in-Some-whole
+overflow_add-result-in-Some-whole c =
+    let m = c.in-Some-whole in
+    omega (arith, meant_fits c.args.stage _ _ m.field-0 (sym m.ensures), length-take-le c.from-size.result c.in-Some.rest.now (omega arith))
 
-pub returns-then-have-eq0 : goal.returns-then-have-eq0
-returns-then-have-eq0 c = next_empty c.args.stage c.args.window.now c.args.ended c.if-have-eq0.true c.if-ended.false
-
-pub returns-then-have-lt3 : goal.returns-then-have-lt3
-returns-then-have-lt3 c = c.unfinished.ensures ∙ next_head c.args.stage c.args.window.now c.args.ended c.if-have-eq0.false (omega arith)
-
-pub returns-then-have-size : goal.returns-then-have-size
-returns-then-have-size c =
-    c.unfinished-then-have-size.ensures
-    ∙ next_cut c.args.stage c.args.window.now c.args.ended c.if-have-eq0.false (omega arith) _ c.two-size.ensures (omega arith) (omega arith)
-
-pub returns : goal.returns
-returns c = next_whole c.args.stage c.args.window.now c.args.ended c.if-have-eq0.false (omega arith) _ c.two-size.ensures _ (omega arith) (omega arith) c.whole.ensures
+pub overflow_sub-result : goal.overflow_sub-result
+overflow_sub-result c =
+    let m = c.in-Some-whole in
+    omega (arith, meant_fits c.args.stage _ _ m.field-0 (sym m.ensures), length-take-le c.from-size.result c.in-Some.rest.now (omega arith))

@@ -3,7 +3,7 @@ use mathlib.Core.Path.{◌≡◌, refl, sym, ◌∙◌}
 use Prim.Native.Nat.{◌+◌, ◌≤◌}
 use native.Mathlib.Omega.{arith}
 use lib.ListN.{length, length-set}
-use Rattle.turn_packet.proofs.Places.{packet_put}
+use Rattle.turn_packet.proofs.Places.{packet_put, never}
 use Rattle.turn_data.specs.Data.{indication_of, indication_size}
 use Rattle.turn_data.proofs.Laws.{indication_length}
 use Rattle.turn_data.proofs.Seals.{answer_long, answer_narrow, answer_bytes, size_within, rest_room}
@@ -32,6 +32,9 @@ indication-requires c =
     let is : c.indication_size-size.result ≡ k = size_within n k _ (omega arith) c.indication_size-size.ensures.0 in
     (omega arith, rest_room c.args.out.now (c.args.at + 3) k (omega arith))
 
+pub returns-in_err-indication : goal.returns-in_err-indication
+returns-in_err-indication c = absurd (never c.indication.ensures.0 c.in_err-indication.was)
+
 pub bounds-out-at-2 : goal.bounds-out-at-2
 bounds-out-at-2 c = simp length-set (omega arith)
 
@@ -48,5 +51,5 @@ returns c =
     let w : a.at + 3 + size ≤ length a.out.now = omega arith in
     let l = indication_length a.peer a.id a.«data».now (omega (arith, c.well_formed)) in (
       answer_bytes n a.at size k (length a.out.now) (omega arith) is (omega arith),
-      packet_put a.out.now c.indication.new.out (indication_of a.peer a.id a.«data».now) a.at size k is w (l ∙ sym is) c.indication.ensures,
+      packet_put a.out.now c.indication.new.out (indication_of a.peer a.id a.«data».now) a.at size k is w (l ∙ sym is) c.indication.ensures.1,
     )

@@ -1,33 +1,17 @@
--- `turn_deadline::earliest_channel` meets its contract. Invariant: the best so far is the best of the rows in use from i on.
-use mathlib.Core.Path.{◌≡◌, ap, ◌∙◌}
-use Prim.Native.Nat.{◌-◌}
-use borrow.Author.Rules.{rules}
-use lib.ListN.{length, get_or}
-use Rattle.turn_state.specs.View.{chan_in, no_channel}
-use Rattle.turn_deadline.specs.Times.{deadline_of, of_channel}
-use Rattle.turn_deadline.proofs.Scan.{best_from, best_none, best_next, channel_time}
+-- `turn_deadline::earliest_channel` meets its contract: `min` over the rows in use that wait for something.
+use Rattle.std.proofs.Common.{rules, tests, take}
+use Rattle.std.specs.Bool.{then_some}
+use Rattle.std.proofs.lemmas.Iterator.{YieldsList-from_slice}
+use Rattle.std.proofs.lemmas.Iterator.Consumers.{YieldsList-from_filter_map, min_from_yields_List}
+use Rattle.turn_state.specs.declared.Channel.{Channel}
+use Rattle.turn_state.specs.View.{chan_in}
+use Rattle.turn_deadline.specs.Times.{of_channel}
+use Rattle.turn_deadline.proofs.Scan.{least_row, then_cond}
 use Rattle.turn_deadline.proofs.earliest_channel.Goals as goal
-
-pub loop-i-init : goal.loop-i-init
-loop-i-init c =
-    let a = c.args.t in
-    let rows : length a.rows ≡ 32 = c.well_formed.0.1.1.0.1.0.1 in
-    (search rules, best_none of_channel chan_in a.rows a.len 32 c.used-i.result rows c.used-i.ensures)
-
-pub loop-i-preserved : goal.loop-i-preserved
-loop-i-preserved c =
-    let l = c.loop-i in
-    let a = c.args.t in
-    let rows : length a.rows ≡ 32 = c.well_formed.0.1.1.0.1.0.1 in (
-      search rules,
-      best_next of_channel chan_in a.rows no_channel a.len 32 l.i c.held_time.result l.best c.earlier-best.result rows (search rules) (search rules) l.invariant.1
-          (c.held_time.ensures ∙ ap deadline_of (channel_time (get_or a.rows (l.i - 1) no_channel)))
-          c.earlier-best.ensures,
-    )
 
 pub returns : goal.returns
 returns c =
-    let l = c.loop-i in
-    let a = c.args.t in
-    let e : l.i ≡ 0 = search rules in
-    l.invariant.1 ∙ ap (best_from of_channel chan_in a.rows a.len) e
+    let t = c.args.t in
+    least_row of_channel chan_in _ (λ (r : Channel). then_cond r.bound r.at) t.rows t.len 32 c.min.result _ c.well_formed.0.1.1.0.1.0.1 c.min.ensures
+    (min_from_yields_List c.filter_map.result _ c.min-2.ensures.ran
+    (YieldsList-from_filter_map _ (λ (r : Channel). then_some r.bound r.at) (YieldsList-from_slice (take c.min.result t.rows) cc) c.filter_map.ensures.closure (λ x r q k. (search rules, search (rules, tests)))))

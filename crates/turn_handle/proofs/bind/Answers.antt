@@ -6,23 +6,23 @@ use Rattle.turn_tables.proofs.Laws.{found_chan}
 use Rattle.turn_handle.proofs.Outcomes.{binds, no_channel_bound}
 use Rattle.turn_handle.proofs.bind.Goals as goal
 
-pub offset_bounds-table-i : goal.offset_bounds-table-i
-offset_bounds-table-i c =
-    let full : length c.args.client.channels.rows ≡ 32 = c.well_formed.0.1.1.1.1.1.1.0.1.1.0.1.0.1 in
-    omega (arith, found_chan c.args.client.channels full _ _ (sym c.find_channel.ensures ∙ c.in-At.is))
+pub returns-in_default : goal.returns-in_default
+returns-in_default c =
+    rw c.quiet.ensures (no_channel_bound c.args.client c.args.peer c.args.number c.args.now (sym c.find_channel.ensures ∙ c.in_default.is))
 
-pub bounds-table-i : goal.bounds-table-i
-bounds-table-i c =
+pub offset_bounds-client-i : goal.offset_bounds-client-i
+offset_bounds-client-i c =
     let full : length c.args.client.channels.rows ≡ 32 = c.well_formed.0.1.1.1.1.1.1.0.1.1.0.1.0.1 in
-    omega (arith, found_chan c.args.client.channels full _ _ (sym c.find_channel.ensures ∙ c.in-At.is))
+    omega (arith, found_chan c.args.client.channels full _ _ (sym c.find_channel.ensures ∙ c.in-Some.is))
 
-pub returns-in-At : goal.returns-in-At
-returns-in-At c =
+pub bounds-client-i : goal.bounds-client-i
+bounds-client-i c =
+    let full : length c.args.client.channels.rows ≡ 32 = c.well_formed.0.1.1.1.1.1.1.0.1.1.0.1.0.1 in
+    omega (arith, found_chan c.args.client.channels full _ _ (sym c.find_channel.ensures ∙ c.in-Some.is))
+
+pub returns : goal.returns
+returns c =
     let full : length c.args.client.channels.rows ≡ 32 = c.well_formed.0.1.1.1.1.1.1.0.1.1.0.1.0.1 in
     let own = c.bound-own in
-    rw c.refused.ensures
-    (binds c.args.client c.args.peer c.args.number c.args.now _ _ own.result c.put_channel-put.result full (sym c.find_channel.ensures ∙ c.in-At.is) own.ensures.0 own.ensures.1 c.put_channel-put.ensures)
-
-pub returns-in-Nowhere : goal.returns-in-Nowhere
-returns-in-Nowhere c =
-    rw c.refused-in-Nowhere.ensures (no_channel_bound c.args.client c.args.peer c.args.number c.args.now (sym c.find_channel.ensures ∙ c.in-Nowhere.is))
+    rw c.quiet-2.ensures
+    (binds c.args.client c.args.peer c.args.number c.args.now _ _ own.result c.put_channel.result full (sym c.find_channel.ensures ∙ c.in-Some.is) own.ensures.0 own.ensures.1 c.put_channel.ensures)

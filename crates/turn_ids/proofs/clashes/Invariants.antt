@@ -12,9 +12,7 @@ use Rattle.turn_ids.proofs.clashes.Given as goal
 abbrev pub tids : Requests → List (List ℕ)
 tids t = map (λ x. x.msg.tid) (txns_in t)
 
+-- the clash of all used ids is that of those from k on
 abbrev pub invariant-loop-k : goal.invariant-loop-k
 invariant-loop-k l =
-    (l.k ≤ l.n) × (l.n ≤ ids_in l.ids) × (clash (tids l.t) (ids_from l.ids l.k (l.n - l.k)) ≡ clash (tids l.t) (ids_from l.ids 0 (min l.used (ids_in l.ids))))
-
-abbrev pub decreases-loop-k : goal.decreases-loop-k
-decreases-loop-k l = l.n - l.k
+    (l.n ≤ ids_in l.ids) × (clash (tids l.t) (ids_from l.ids l.k (l.n - l.k)) ≡ clash (tids l.t) (ids_from l.ids 0 (min l.used (ids_in l.ids))))

@@ -15,4 +15,4 @@ pub returns : goal.returns
 returns c =
     let s = c in let a = s.args in
     let rows : length a.t.rows ≡ 64 = s.well_formed.0.1.1.0.1.0.1 in
-    full_unless a.t rows a.ids.now a.k c.is_pending.result c.id_of-id.result (omega arith) (omega (arith, c.id_count.ensures)) c.id_of-id.ensures c.is_pending.ensures
+    full_unless a.t rows a.ids.now a.k c.is_pending.result c.id_of.result (omega arith) (omega (arith, c.id_count.ensures)) c.id_of.ensures c.is_pending.ensures

@@ -2,7 +2,6 @@
 use mathlib.Core.Path.{sym, ◌∙◌}
 use native.Mathlib.Omega.{arith}
 use Rattle.turn_packet.proofs.Laws.{both, sums}
-use borrow.Author.Rules.{rules}
 use Rattle.turn_packet.proofs.auth_size.Goals as goal
 
 pub returns-then-c-2 : goal.returns-then-c-2

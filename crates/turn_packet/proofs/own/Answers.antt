@@ -1,5 +1,6 @@
 -- `turn_packet::own` meets its contract, kind by kind: one attribute, or two one behind the other.
-use mathlib.Core.Path.{sym, ap}
+use mathlib.Core.Path.{refl, sym, ap, ◌∙◌}
+use Rattle.stun_address.proofs.Network.{library_bytes}
 use mathlib.Core.List.{[], ◌∷◌}
 use Prim.Native.Nat.{◌/◌, ◌%◌}
 use native.Mathlib.Omega.{arith}
@@ -10,8 +11,7 @@ use Rattle.turn_state.specs.Source.{SOFTWARE}
 use Rattle.stun_address.specs.Source.{to_be, encode_xor_addr}
 use Rattle.turn_state.specs.View.{attrs_of}
 use Rattle.turn_packet.specs.Source.{own_size, address_size}
-use Rattle.turn_packet.proofs.Places.{put_eq, one, two}
-use borrow.Author.Rules.{rules}
+use Rattle.turn_packet.proofs.Places.{put_as, put_eq, one, two}
 use Rattle.turn_packet.proofs.own.Goals as goal
 
 pub attr-b-requires : goal.attr-b-requires
@@ -50,7 +50,8 @@ returns-in-Refresh c =
     let e = sym c.in-Refresh.is in
     let lifetime = c.in-Refresh.lifetime in
     put_eq c.args.out.now c.attr-in-Refresh.new.out 20 c.attr-in-Refresh.result (ap (λ (x : Kind). attributes (attrs_of x c.args.under)) e) (ap own_size e)
-    (one c.args.out.now c.attr-in-Refresh.new.out (push_attr 0x000D (to_be 4 lifetime)) 20 8 c.attr-in-Refresh.result c.attr-in-Refresh.ensures)
+    (one c.args.out.now c.attr-in-Refresh.new.out (push_attr 0x000D (to_be 4 lifetime)) 20 8 c.attr-in-Refresh.result
+    (put_as c.args.out.now c.attr-in-Refresh.new.out 20 c.attr-in-Refresh.result 0x000D (c.to_be_bytes.ensures ∙ library_bytes 4 lifetime) refl c.attr-in-Refresh.ensures))
 
 pub returns-in-Permission : goal.returns-in-Permission
 returns-in-Permission c =

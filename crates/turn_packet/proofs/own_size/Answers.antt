@@ -2,7 +2,6 @@
 use mathlib.Core.Path.{ap}
 use native.Mathlib.Omega.{arith}
 use Rattle.turn_packet.specs.Source.{own_size}
-use borrow.Author.Rules.{rules}
 use Rattle.turn_packet.proofs.own_size.Goals as goal
 
 pub returns-in-ChannelBind : goal.returns-in-ChannelBind

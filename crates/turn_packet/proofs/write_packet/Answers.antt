@@ -5,10 +5,9 @@ use native.Mathlib.Omega.{arith}
 use lib.ListN.{length, length-set}
 use Rattle.turn_packet.specs.Source.{packet_size, packet_of}
 use Rattle.turn_packet.proofs.Laws.{packet_length}
-use Rattle.turn_packet.proofs.Places.{packet_put}
+use Rattle.turn_packet.proofs.Places.{packet_put, same_place}
 use Rattle.turn_packet.proofs.Rooms.{rooms}
 use Rattle.turn_packet.proofs.Whole.{refused, answered}
-use borrow.Author.Rules.{rules}
 use Rattle.turn_packet.proofs.write_packet.Goals as goal
 
 pub returns-then-out-at : goal.returns-then-out-at
@@ -28,11 +27,11 @@ bounds-out-at-3 c = simp length-set (omega arith)
 pub returns : goal.returns
 returns c =
     let a = c.args in
-    let size = c.packet_size-size.result in
-    let is : size ≡ packet_size a.c a.a = c.packet_size-size.ensures.0 in
+    let size = c.in_ok-size.size in
+    let is : size ≡ packet_size a.c a.a = sym (same_place c.in_ok-size.ensures.0 refl) in
     let w : a.at + 3 + size ≤ length a.out.now = omega (arith, c) in
     let g = rooms a.c _ c.well_formed.1.1.0 in
     let l = packet_length a.c g.username g.realm g.nonce a.a a.id a.under (omega (arith, c.well_formed)) (omega (arith, c.well_formed)) in (
       answered a.at size (packet_size a.c a.a) (length a.out.now) is (omega arith),
-      packet_put a.out.now c.message.new.out (packet_of a.c a.a a.id a.under) a.at size (packet_size a.c a.a) is w (l ∙ sym is) c.message.ensures,
+      packet_put a.out.now c.message.new.out (packet_of a.c a.a a.id a.under) a.at size (packet_size a.c a.a) is w (l ∙ sym is) c.in_ok-size.ensures.1,
     )

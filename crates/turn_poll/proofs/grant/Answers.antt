@@ -1,17 +1,16 @@
--- `turn_poll::grant` meets its contract: over the permission that is there, or last.
+-- `turn_poll::grant` meets its contract: over the permission that is there, last, or refused.
 use mathlib.Core.Path.{◌≡◌, sym, ◌∙◌}
+use Rattle.std.proofs.Common.{rules}
 use lib.ListN.{length}
 use Rattle.turn_poll.proofs.Permitting.{grant_found, grant_new}
 use Rattle.turn_poll.proofs.grant.Goals as goal
 
-pub returns-in-At : goal.returns-in-At
-returns-in-At c =
-    let a = c.args in
-    let rows : length a.t.rows ≡ 32 = c.well_formed.0.1.1.0.1.0.1 in
-    grant_found a.t a.ip a.now c.host_of-host.result rows c.host_of-host.ensures.0 c.host_of-host.ensures.1 c.put_permission.result _ (sym c.find_permission.ensures ∙ c.in-At.is) c.put_permission.ensures
+pub returns-in-Some : goal.returns-in-Some
+returns-in-Some c =
+    let rows : length c.args.t.rows ≡ 32 = search rules in
+    grant_found c.args.t c.args.ip c.args.now _ rows c.from.ensures.0 c.from.ensures.1 _ _ (sym c.find_permission.ensures ∙ c.in-Some.is) c.put_permission.ensures
 
-pub returns-in-Nowhere : goal.returns-in-Nowhere
-returns-in-Nowhere c =
-    let a = c.args in
-    let rows : length a.t.rows ≡ 32 = c.well_formed.0.1.1.0.1.0.1 in
-    grant_new a.t a.ip a.now c.host_of-host.result rows c.host_of-host.ensures.0 c.host_of-host.ensures.1 c.push_permission.result (sym c.find_permission.ensures ∙ c.in-Nowhere.is) c.requires.0 c.push_permission.ensures
+pub returns-else-t-ge-PERMISSION_ROOM : goal.returns-else-t-ge-PERMISSION_ROOM
+returns-else-t-ge-PERMISSION_ROOM c =
+    let rows : length c.args.t.rows ≡ 32 = search rules in
+    grant_new c.args.t c.args.ip c.args.now _ rows c.from.ensures.0 c.from.ensures.1 _ (sym c.find_permission.ensures ∙ c.in-None.is) c.if-t-ge-PERMISSION_ROOM.false c.push_permission.ensures

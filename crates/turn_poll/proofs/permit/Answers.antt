@@ -1,8 +1,9 @@
 -- `turn_poll::permit` meets its contract: refused for its time, for the full table, or what its plan comes to.
-use Rattle.turn_state.specs.Number.{given_of}
-use mathlib.Core.Path.{◌≡◌, refl, sym, ◌∙◌}
-use native.Mathlib.Omega.{arith}
+use Rattle.std.specs.Prelude.{Err}
+use mathlib.Core.Path.{◌≡◌, refl}
+use Rattle.std.proofs.Common.{rules}
 use lib.ListN.{length}
+use Rattle.turn_state.specs.Number.{given_of}
 use Rattle.turn_state.specs.State.{begin}
 use Rattle.turn_state.specs.View.{view}
 use Rattle.turn_state.proofs.Answering.{late_meets, refused_meets}
@@ -11,43 +12,34 @@ use Rattle.turn_poll.specs.Concluding.{permitted}
 use Rattle.turn_poll.proofs.Permitting.{no_place, success_plan}
 use Rattle.turn_poll.proofs.permit.Goals as goal
 
-pub returns-then-now-gt9007199254740991 : goal.returns-then-now-gt9007199254740991
-returns-then-now-gt9007199254740991 c =
+pub returns-then-now-gt-LATEST : goal.returns-then-now-gt-LATEST
+returns-then-now-gt-LATEST c =
     λ buf.
     let a = c.args in
-    let lent = a.ids.now in
-    let run = permitted a.now buf a.id a.ip (begin (view a.client) lent) in
-    rw c.refused.ensures
-    (late_meets a.client (given_of a.now lent (length a.out.now)) run a.out.now c.if-now-gt9007199254740991.true)
+    late_meets a.client (given_of a.now a.ids.now (length a.out.now)) (permitted a.now buf a.id a.ip (begin (view a.client) a.ids.now)) a.out.now c.if-now-gt-LATEST.true
 
-pub returns-then-no_room : goal.returns-then-no_room
-returns-then-no_room c =
+pub returns-in_err-granted : goal.returns-in_err-granted
+returns-in_err-granted c =
     λ buf.
     let a = c.args in
-    let lent = a.ids.now in
-    let rows : length a.client.requests.rows ≡ 64 = c.well_formed.0.1.1.1.1.0.1.1.0.1.0.1 in
+    let rows : length a.client.requests.rows ≡ 64 = search rules in
     let house = rooms a.client.credentials _ c.well_formed.0.1.1.1.0 in
-    let run = permitted a.now buf a.id a.ip (begin (view a.client) lent) in
-    rw c.refused-then-no_room.ensures
-    (refused_meets a.client (given_of a.now lent (length a.out.now)) run a.out.now 5 refl
-    (no_place a.client a.now lent a.id buf a.ip rows (length a.out.now) house c.if-now-gt9007199254740991.false (sym c.no_room.ensures ∙ c.if-no_room.true)))
-
-pub grant-granted-requires : goal.grant-granted-requires
-grant-granted-requires c = (sym c.no_room.ensures ∙ c.if-no_room.false, c.if-now-gt9007199254740991.false)
-
-pub conclude-requires : goal.conclude-requires
-conclude-requires c =
-    let p = c.binding-d.ensures in (omega (arith, p.few_sends), omega (arith, p.few_asks), c.if-now-gt9007199254740991.false)
+    let none = c.in_err-granted.ensures in
+    let e : c.from_residual.result ≡ Err c.in_err-granted.field-0.0 = search rules in
+    rw (e, none.five)
+    (refused_meets a.client (given_of a.now a.ids.now (length a.out.now)) (permitted a.now buf a.id a.ip (begin (view a.client) a.ids.now)) a.out.now 5 refl
+    (no_place a.client a.now a.ids.now a.id buf a.ip rows (length a.out.now) house c.if-now-gt-LATEST.false none.met))
 
 pub returns : goal.returns
 returns c =
     λ buf.
     let a = c.args in
-    let lent = a.ids.now in
-    let p = c.binding-d in
-    let g = c.grant-granted in
-    let w = c.without-requests in
-    let rows : length a.client.requests.rows ≡ 64 = c.well_formed.0.1.1.1.1.0.1.1.0.1.0.1 in
-    c.conclude.ensures (permitted a.now buf a.id a.ip (begin (view a.client) lent))
-    (λ n. p.ensures.tidy (w.ensures.1 n.requests) (g.ensures.1 n.permissions) n.channels n.no_refresh)
-    (success_plan a.client a.now lent a.id buf a.ip rows p.result w.result g.result _ refl p.ensures.means w.ensures.0 g.ensures.0 (sym c.no_room.ensures ∙ c.if-no_room.false))
+    let b = c.binding-draft.ensures.0 in
+    let d = c.binding-draft.ensures.1 in
+    let e = c.binding-draft.ensures.2 in
+    let w = c.without.ensures in
+    let g = c.in_ok-granted.ensures in
+    let rows : length a.client.requests.rows ≡ 64 = search rules in
+    c.conclude.ensures (permitted a.now buf a.id a.ip (begin (view a.client) a.ids.now))
+    (λ n. e.tidy tt (record { requests = w.1 n.requests; permissions = g.tidy n.permissions; channels = (d.tidy n.requests n.permissions n.channels).channels }))
+    (success_plan a.client a.now a.ids.now a.id buf a.ip rows b c.binding-draft.result c.without.result c.in_ok-granted.granted d.means w.0 g.granted e.means g.free)

@@ -1,8 +1,9 @@
 -- `turn_retry::retry` meets its contract, answer by answer.
+use Rattle.std.specs.Prelude.{Err}
 use Rattle.turn_state.specs.Number.{given_of}
-use mathlib.Core.Path.{ap, ap₂, sym, ◌∙◌}
-use mathlib.Core.Bool.{Bool, ◌||◌}
+use mathlib.Core.Path.{◌≡◌, sym, ◌∙◌}
 use native.Mathlib.Omega.{arith}
+use borrow.Author.Rules.{rules}
 use lib.ListN.{length}
 use Rattle.turn_state.specs.State.{begin}
 use Rattle.turn_state.specs.View.{view, no_request}
@@ -10,10 +11,9 @@ use Rattle.turn_state.proofs.Answering.{late_meets}
 use Rattle.turn_state.proofs.Same.{sized}
 use Rattle.turn_packet.proofs.Rooms.{rooms}
 use Rattle.turn_retry.specs.Retry.{retried}
-use Rattle.turn_retry.specs.Learning.{overlong}
-use Rattle.turn_retry.proofs.Texts.{reads_str}
+use Rattle.turn_retry.proofs.Texts.{reads_str, given_read, refused_two, long_given}
 use Rattle.turn_retry.proofs.Rows.{found_lt, found_out}
-use Rattle.turn_retry.proofs.Trying.{quiet, two, refused, accepted}
+use Rattle.turn_retry.proofs.Trying.{quiet, long_realm, long_nonce, refused, accepted}
 use Rattle.turn_retry.proofs.retry.Goals as goal
 
 pub returns-then-now-gt9007199254740991 : goal.returns-then-now-gt9007199254740991
@@ -21,66 +21,69 @@ returns-then-now-gt9007199254740991 c =
     let a = c.args in
     let lent = a.ids.now in
     let run = retried a.now a.datagram.now a.id (begin (view a.client) lent) in
-    rw c.refused.ensures
-    (late_meets a.client (given_of a.now lent (length a.out.now)) run a.out.now c.if-now-gt9007199254740991.true)
+    late_meets a.client (given_of a.now lent (length a.out.now)) run a.out.now c.if-now-gt9007199254740991.true
 
-pub offset_bounds-table-i : goal.offset_bounds-table-i
-offset_bounds-table-i c =
-    omega (arith, found_lt c.args.client c.args.id _ (sized c.args.client _ c.well_formed.0) (sym c.find_request.ensures ∙ c.in-At.is))
-
-pub bounds-table-i : goal.bounds-table-i
-bounds-table-i c =
-    omega (arith, found_lt c.args.client c.args.id _ (sized c.args.client _ c.well_formed.0) (sym c.find_request.ensures ∙ c.in-At.is))
-
-pub returns-then-overlong : goal.returns-then-overlong
-returns-then-overlong c =
+pub returns-in_default : goal.returns-in_default
+returns-in_default c =
     let a = c.args in
-    let out = found_out a.client a.id _ (sized a.client _ c.well_formed.0) (sym c.find_request.ensures ∙ c.in-At.is) no_request c.remove_request-less.result c.remove_request-less.ensures in
-    rw c.refused-then-overlong.ensures
-    (two a.client a.now a.datagram.now a.id a.ids.now a.out.now _ c.remove_request-less.result out c.get_str-realm.result c.get_str-nonce.result
-    (reads_str a.datagram.now 0x0014 c.get_str-realm.result c.get_str-realm.ensures) (reads_str a.datagram.now 0x0015 c.get_str-nonce.result c.get_str-nonce.ensures) c.if-now-gt9007199254740991.false
-    (ap (λ (b : Bool). b || overlong c.get_str-nonce.result) (sym c.overlong.ensures ∙ c.if-overlong.true)))
+    rw c.quiet.ensures
+    (quiet a.client a.now a.datagram.now a.id a.ids.now a.out.now c.if-now-gt9007199254740991.false (sym c.find_request.ensures ∙ c.in_default.is))
 
-pub returns-then-overlong-2 : goal.returns-then-overlong-2
-returns-then-overlong-2 c =
+pub offset_bounds-client-i : goal.offset_bounds-client-i
+offset_bounds-client-i c =
+    omega (arith, found_lt c.args.client c.args.id _ (sized c.args.client _ c.well_formed.0) (sym c.find_request.ensures ∙ c.in-Some.is))
+
+pub bounds-client-i : goal.bounds-client-i
+bounds-client-i c =
+    omega (arith, found_lt c.args.client c.args.id _ (sized c.args.client _ c.well_formed.0) (sym c.find_request.ensures ∙ c.in-Some.is))
+
+pub returns-in_err-realm : goal.returns-in_err-realm
+returns-in_err-realm c =
     let a = c.args in
-    let out = found_out a.client a.id _ (sized a.client _ c.well_formed.0) (sym c.find_request.ensures ∙ c.in-At.is) no_request c.remove_request-less.result c.remove_request-less.ensures in
-    rw c.refused-then-overlong-2.ensures
-    (two a.client a.now a.datagram.now a.id a.ids.now a.out.now _ c.remove_request-less.result out c.get_str-realm.result c.get_str-nonce.result
-    (reads_str a.datagram.now 0x0014 c.get_str-realm.result c.get_str-realm.ensures) (reads_str a.datagram.now 0x0015 c.get_str-nonce.result c.get_str-nonce.ensures) c.if-now-gt9007199254740991.false
-    (ap₂ (λ (x y : Bool). x || y) (sym c.overlong.ensures ∙ c.if-overlong.false) (sym c.overlong-in-At.ensures ∙ c.if-overlong-2.true)))
+    let buf = a.datagram.now in
+    let f = found_out a.client a.id _ (sized a.client _ c.well_formed.0) (sym c.find_request.ensures ∙ c.in-Some.is) no_request c.remove_request-less.result c.remove_request-less.ensures in
+    let e = c.in_err-realm.field-0.0 in
+    let no = sym c.or.ensures ∙ c.in_err-realm.was in
+    let is : c.from_residual.result ≡ Err e = search rules in
+    rw (is, refused_two c.get_str.result e no)
+    (long_realm a.client a.now buf a.id a.ids.now a.out.now _ c.remove_request-less.result f c.if-now-gt9007199254740991.false (long_given buf 0x0014 c.get_str.result e c.get_str.ensures no))
 
-pub returns-then-number-ne0 : goal.returns-then-number-ne0
-returns-then-number-ne0 c =
+pub returns-in_err-nonce : goal.returns-in_err-nonce
+returns-in_err-nonce c =
     let a = c.args in
-    let out = found_out a.client a.id _ (sized a.client _ c.well_formed.0) (sym c.find_request.ensures ∙ c.in-At.is) _ c.remove_request-less.result c.remove_request-less.ensures in
-    rw c.refused-then-number-ne0.ensures
-    (refused a.client a.now a.datagram.now a.id a.ids.now a.out.now _ c.remove_request-less.result out c.get_str-realm.result c.get_str-nonce.result
-    (reads_str a.datagram.now 0x0014 c.get_str-realm.result c.get_str-realm.ensures) (reads_str a.datagram.now 0x0015 c.get_str-nonce.result c.get_str-nonce.ensures) c.if-now-gt9007199254740991.false
-    (sym c.overlong.ensures ∙ c.if-overlong.false) (sym c.overlong-in-At.ensures ∙ c.if-overlong-2.false) c.learn_realm-keyed.result
-    c.learn_nonce-credentials.result c.learn_realm-keyed.ensures c.learn_nonce-credentials.ensures
-    (rooms c.learn_nonce-credentials.result _ c.learn_nonce-credentials.type_inv) c.packet_size-size.result c.packet_size-size.ensures.0 c.meets_full-full.result c.meets_full-full.ensures
-    c.verdict-number.result c.verdict-number.ensures c.if-number-ne0.true)
+    let buf = a.datagram.now in
+    let f = found_out a.client a.id _ (sized a.client _ c.well_formed.0) (sym c.find_request.ensures ∙ c.in-Some.is) no_request c.remove_request-less.result c.remove_request-less.ensures in
+    let e = c.in_err-nonce.field-0.0 in
+    let no = sym c.or-2.ensures ∙ c.in_err-nonce.was in
+    let is : c.from_residual-in_err-nonce.result ≡ Err e = search rules in
+    rw (is, refused_two c.get_str-2.result e no)
+    (long_nonce a.client a.now buf a.id a.ids.now a.out.now _ c.remove_request-less.result f c.if-now-gt9007199254740991.false (long_given buf 0x0015 c.get_str-2.result e c.get_str-2.ensures no))
 
-pub overflow_add-next : goal.overflow_add-next
-overflow_add-next c =
-    omega (arith, c.first_wait.ensures.1, c.if-now-gt9007199254740991.false)
-
-pub returns-in-Nowhere : goal.returns-in-Nowhere
-returns-in-Nowhere c =
+pub returns-in_err-verdict : goal.returns-in_err-verdict
+returns-in_err-verdict c =
+    let e = c.in_err-verdict.field-0.0 in
+    let is : c.from_residual-in_err-verdict.result ≡ Err e = search rules in
     let a = c.args in
-    rw c.refused-in-Nowhere.ensures
-    (quiet a.client a.now a.datagram.now a.id a.ids.now a.out.now c.if-now-gt9007199254740991.false (sym c.find_request.ensures ∙ c.in-Nowhere.is))
+    let buf = a.datagram.now in
+    let f = found_out a.client a.id _ (sized a.client _ c.well_formed.0) (sym c.find_request.ensures ∙ c.in-Some.is) _ c.remove_request-less.result c.remove_request-less.ensures in
+    let realm = reads_str buf 0x0014 c.in_ok-realm.realm (sym c.get_str.ensures ∙ given_read c.get_str.result _ (sym c.or.ensures ∙ c.in_ok-realm.was)) in
+    let nonce = reads_str buf 0x0015 c.in_ok-nonce.nonce (sym c.get_str-2.ensures ∙ given_read c.get_str-2.result _ (sym c.or-2.ensures ∙ c.in_ok-nonce.was)) in
+    let k = c.learn_nonce-credentials in
+    rw is
+    (refused a.client a.now buf a.id a.ids.now a.out.now _ c.remove_request-less.result f c.if-now-gt9007199254740991.false c.in_ok-realm.realm c.in_ok-nonce.nonce realm nonce
+    c.learn_realm-keyed.result k.result c.learn_realm-keyed.ensures k.ensures (rooms k.result _ k.type_inv) c.packet_size-size.result c.packet_size-size.ensures.0
+    c.meets_full-full.result c.meets_full-full.ensures e c.in_err-verdict.ensures)
 
-pub returns-else-number-ne0 : goal.returns-else-number-ne0
-returns-else-number-ne0 c =
+pub returns : goal.returns
+returns c =
     let a = c.args in
-    let out = found_out a.client a.id _ (sized a.client _ c.well_formed.0) (sym c.find_request.ensures ∙ c.in-At.is) _ c.remove_request-less.result c.remove_request-less.ensures in
-    rw c.sent.ensures
-    (accepted a.client a.now a.datagram.now a.id a.ids.now a.out.now _ c.remove_request-less.result out c.get_str-realm.result c.get_str-nonce.result
-    (reads_str a.datagram.now 0x0014 c.get_str-realm.result c.get_str-realm.ensures) (reads_str a.datagram.now 0x0015 c.get_str-nonce.result c.get_str-nonce.ensures) c.if-now-gt9007199254740991.false
-    (sym c.overlong.ensures ∙ c.if-overlong.false) (sym c.overlong-in-At.ensures ∙ c.if-overlong-2.false) c.learn_realm-keyed.result
-    c.learn_nonce-credentials.result c.learn_realm-keyed.ensures c.learn_nonce-credentials.ensures
-    (rooms c.learn_nonce-credentials.result _ c.learn_nonce-credentials.type_inv) c.packet_size-size.result c.packet_size-size.ensures.0 c.meets_full-full.result c.meets_full-full.ensures
-    c.verdict-number.result c.id_of-own.result c.write_packet.result c.write_packet.new.out c.first_wait.result c.again-later.result c.insert_request-requests.result
-    c.verdict-number.ensures c.if-number-ne0.false c.id_of-own.ensures c.write_packet.ensures.0 c.write_packet.ensures.1 c.first_wait.ensures.0 c.again-later.ensures c.insert_request-requests.ensures)
+    let buf = a.datagram.now in
+    let f = found_out a.client a.id _ (sized a.client _ c.well_formed.0) (sym c.find_request.ensures ∙ c.in-Some.is) _ c.remove_request-less.result c.remove_request-less.ensures in
+    let realm = reads_str buf 0x0014 c.in_ok-realm.realm (sym c.get_str.ensures ∙ given_read c.get_str.result _ (sym c.or.ensures ∙ c.in_ok-realm.was)) in
+    let nonce = reads_str buf 0x0015 c.in_ok-nonce.nonce (sym c.get_str-2.ensures ∙ given_read c.get_str-2.result _ (sym c.or-2.ensures ∙ c.in_ok-nonce.was)) in
+    let k = c.learn_nonce-credentials in
+    rw c.sending.ensures
+    (accepted a.client a.now buf a.id a.ids.now a.out.now _ c.remove_request-less.result f c.if-now-gt9007199254740991.false c.in_ok-realm.realm c.in_ok-nonce.nonce realm nonce
+    c.learn_realm-keyed.result k.result c.learn_realm-keyed.ensures k.ensures (rooms k.result _ k.type_inv) c.packet_size-size.result c.packet_size-size.ensures.0
+    c.meets_full-full.result c.meets_full-full.ensures c.id_of-own.result c.write_packet.result c.write_packet.new.out c.first_next.result c.again-later.result c.insert_request-after.result
+    c.in_ok-verdict.ensures c.id_of-own.ensures c.write_packet.ensures.0 c.write_packet.ensures.1 (c.first_next.ensures.of_a_call c.if-now-gt9007199254740991.false) c.again-later.ensures c.insert_request-after.ensures)

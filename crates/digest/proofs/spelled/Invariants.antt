@@ -1,0 +1,8 @@
+-- The first i words are written.
+use Rattle.std.proofs.Common.{◌≡◌, ◌*◌, take}
+use mathlib.Core.List.{flat_map}
+use Rattle.digest.specs.Bytes.{bytes, ordered}
+use Rattle.digest.proofs.spelled.Given as goal
+
+abbrev pub invariant-loop-i : goal.invariant-loop-i
+invariant-loop-i g l = take (4 * l.i) l.places ≡ flat_map (bytes (ordered l.big) 4) (take l.i l.words)

@@ -1,6 +1,0 @@
--- i goes up to n.
-use Rattle.std.proofs.Common.{◌-◌}
-use Rattle.player.proofs.kept.Given as goal
-
-abbrev pub decreases-loop-i : goal.decreases-loop-i
-decreases-loop-i l = l.n - l.i

@@ -1,6 +1,0 @@
--- i goes up to the rows' end.
-use Rattle.std.proofs.Common.{◌-◌}
-use Rattle.player.proofs.state.channels.Given as goal
-
-abbrev pub decreases-loop-i : goal.decreases-loop-i
-decreases-loop-i g l = l.n - l.i

@@ -1,5 +1,0 @@
--- Each call has a digit less.
-use Rattle.vectors.proofs.line.Line.+number.Given as goal
-
-abbrev pub decreases-number : goal.decreases-number
-decreases-number l = l.n
