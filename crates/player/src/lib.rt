@@ -80,43 +80,37 @@ impl Session {
     // Plays a piece at a stage, whose bytes are the body.
     fn play(&mut self, rt: &impl Print, stage: Stage, piece: Piece, body: &[u8]) -> io::Result<()> {
         self.stage = Some(stage.later());
-        match piece {
-            Piece::Username => self.username = Carried::first_of(body),
-            Piece::Password => self.password = Carried::first_of(body),
-            Piece::Ids => self.ids = Carried::first_of(body),
+        let client = self.client;
+        let ids = self.ids.as_slice();
+        let mut out = [0u8; 65536];
+        let (call, made) = match piece {
+            Piece::Username => {
+                self.username = Carried::first_of(body);
+                return Ok(());
+            }
+            Piece::Password => {
+                self.password = Carried::first_of(body);
+                return Ok(());
+            }
             Piece::Transport(reliable) => return self.open(rt, reliable),
-            Piece::Start(now) => {
-                return self.call(rt, Call::Start, |client, ids, out| {
-                    turn_poll::start(client, now, ids, out)
-                });
+            Piece::Ids => {
+                self.ids = Carried::first_of(body);
+                return Ok(());
             }
-            Piece::Datagram(now) => {
-                return self.call(rt, Call::Data, |client, ids, out| {
-                    turn_handle::handle(client, now, body, ids, out)
-                });
-            }
-            Piece::Send(now, peer) => {
-                return self.call(rt, Call::Send, |client, ids, out| {
-                    turn_send::send(client, now, peer, body, ids, out)
-                });
-            }
-            Piece::Poll(now) => {
-                return self.call(rt, Call::Poll, |client, ids, out| {
-                    turn_poll::poll(client, now, ids, out)
-                });
-            }
-            Piece::Lost => return self.call(
-                rt,
-                Call::Lost,
-                |client, _, _| Ok(turn_open::lost(client)),
+            Piece::Start(now) => (Call::Start, turn_poll::start(client, now, ids, &mut out)),
+            Piece::Datagram(now) => (
+                Call::Data,
+                turn_handle::handle(client, now, body, ids, &mut out),
             ),
-            Piece::Close => {
-                return self.call(rt, Call::Close, |client, ids, out| {
-                    turn_close::close(client, ids, out)
-                });
-            }
-        }
-        Ok(())
+            Piece::Send(now, peer) => (
+                Call::Send,
+                turn_send::send(client, now, peer, body, ids, &mut out),
+            ),
+            Piece::Poll(now) => (Call::Poll, turn_poll::poll(client, now, ids, &mut out)),
+            Piece::Lost => (Call::Lost, Ok(turn_open::lost(client))),
+            Piece::Close => (Call::Close, turn_close::close(client, ids, &mut out)),
+        };
+        self.called(rt, call, made, &out)
     }
 
     fn open(&mut self, rt: &impl Print, reliable: bool) -> io::Result<()> {
@@ -134,16 +128,15 @@ impl Session {
         Ok(())
     }
 
-    fn call<F: FnOnce(Client, &[u8], &mut [u8]) -> Result<Answer, Refusal>>(
+    // Lists a call, and what is seen of it. A refused call has told and written nothing.
+    fn called(
         &mut self,
         rt: &impl Print,
         call: Call,
-        made: F,
-    ) -> io::Result<()>
-        requires { F.IsAlwaysCallable made }
-    {
-        let mut out = [0u8; 65536];
-        let (number, answer) = match made(self.client, self.ids.as_slice(), &mut out) {
+        made: Result<Answer, Refusal>,
+        out: &[u8],
+    ) -> io::Result<()> {
+        let (number, answer) = match made {
             Ok(answer) => (0, answer),
             Err(refusal) => (u32::from(refusal), Answer::quiet(self.client)),
         };
@@ -161,7 +154,7 @@ impl Session {
         };
         print!(rt; "{line}")?;
         if self.detail != Detail::Lines {
-            calls::below(rt, &answer, &out)?;
+            calls::below(rt, &answer, out)?;
         }
         if self.detail == Detail::Clients {
             self.list(rt)?;

@@ -6,6 +6,7 @@
 ghost use Rattle.std.specs.Prelude.{◌≡◌};
 ghost use Rattle.stun_walker.specs.Source.{step_of};
 
+// What stands at a place. An enum and no Option: at `Past` a caller stops for another reason than at `Done`.
 #[derive(Clone, Copy, PartialEq, Eq)]
 pub enum Step {
     // Its type, its value (`len` bytes from `start` on), and the place after it and its padding.

@@ -5,9 +5,7 @@
 use std::{array, env, io};
 use stun_address::{Address, Ip};
 use stun_frame::names::ATTR_LIFETIME;
-use turn_state::{
-    Answer, Channel, Channels, Client, Host, Permission, Permissions, Place, Refusal,
-};
+use turn_state::{Channel, Channels, Client, Host, Permission, Permissions, Place};
 
 // The i-th peer: 192.0.2.1 port 5000, and on.
 fn peer(i: usize) -> Address {
@@ -45,41 +43,54 @@ fn ready() -> Client {
     client
 }
 
-// Calls in a row on one client, and the events and packets, or what they were refused with.
-fn calls<F: Fn(&Client, &mut [u8]) -> Result<Answer, Refusal>>(units: u64, call: F) -> u64
-    requires { F.IsAlwaysCallable call }
-{
-    let mut client = ready();
-    let mut room = [0u8; 4096];
-    let mut seen = 0;
-    for _ in 0..units {
-        match call(&client, &mut room) {
-            Ok(answer) => {
-                seen ^= answer.events as u64 ^ answer.packets as u64;
-                client = answer.client;
+// Calls in a row on one client, and the events and packets, or what they were refused with. A macro and no function over a closure,
+// which would add three copies of the client to what is counted: 12,387 instructions an idle poll in place of 8,545.
+macro_rules! calls {
+    ($units:expr, $client:ident, $room:ident, $call:expr) => {{
+        let mut $client = ready();
+        let mut $room = [0u8; 4096];
+        let mut seen = 0;
+        for _ in 0..$units {
+            match $call {
+                Ok(answer) => {
+                    seen ^= answer.events as u64 ^ answer.packets as u64;
+                    $client = answer.client;
+                }
+                Err(refusal) => seen ^= u64::from(u32::from(refusal)),
             }
-            Err(refusal) => seen ^= u64::from(u32::from(refusal)),
         }
-    }
-    seen
+        seen
+    }};
 }
 
 // Datagrams that come in.
 fn handled(datagram: &[u8], units: u64) -> u64 {
-    calls(units, |client, out| {
-        turn_handle::handle(*client, 0, datagram, b"", out)
-    })
+    calls!(
+        units,
+        client,
+        room,
+        turn_handle::handle(client, 0, datagram, b"", &mut room)
+    )
 }
 
 // Data sent to the 21st peer.
 fn sent(data: &[u8], units: u64) -> u64 {
-    calls(units, |client, out| {
-        turn_send::send(*client, 0, peer(20), data, b"", out)
-    })
+    let to = peer(20);
+    calls!(
+        units,
+        client,
+        room,
+        turn_send::send(client, 0, to, data, b"", &mut room)
+    )
 }
 
 fn polls(units: u64) -> u64 {
-    calls(units, |client, out| turn_poll::poll(*client, 0, b"", out))
+    calls!(
+        units,
+        client,
+        room,
+        turn_poll::poll(client, 0, b"", &mut room)
+    )
 }
 
 fn deadlines(units: u64) -> u64 {

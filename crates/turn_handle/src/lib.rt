@@ -3,6 +3,7 @@
 #![tactic(auto)]
 
 ghost use Rattle.std.specs.Prelude.{◌≡◌, Some, ◌&&◌, ◌||◌, not, ◌≤◌, eqb, length};
+ghost use Rattle.std.specs.Option.{option_to_list};
 ghost use Rattle.stun_frame.specs.declared.classes.Class.TheVariants.{Success as «SuccessOf», Error as «ErrorOf»};
 ghost use Rattle.stun_walk.specs.Source.{decoded, error_code_of};
 ghost use Rattle.turn_state.specs.Source.{under_id, exempt, is_answer, passed, refresh_time, bound_at, update_chan, on_success, on_failure};
@@ -44,16 +45,33 @@ pub fn handle(
     if 9007199254740991 < now {
         return Err(Refusal::Late);
     }
+    // The answers to data are made here: another function would copy the client once more.
     if let Some(data) = decode_channel_data(datagram) {
-        return Ok(told(client, channel_data(client.channels, data)));
+        let event = channel_data(client.channels, data);
+        return Ok(Answer {
+            client,
+            event,
+            events: count(event),
+            packets: 0,
+            len: 0,
+        });
     }
-    let Some(header) = decode(datagram) else {
-        return Ok(Answer::quiet(client));
-    };
-    if header.typ == DATA_INDICATION {
-        return Ok(told(client, indicated(datagram)));
+    match decode(datagram) {
+        None => Ok(Answer::quiet(client)),
+        Some(header) => {
+            if header.typ == DATA_INDICATION {
+                let event = indicated(datagram);
+                return Ok(Answer {
+                    client,
+                    event,
+                    events: count(event),
+                    packets: 0,
+                    len: 0,
+                });
+            }
+            answer(client, header, now, datagram, ids, out)
+        }
     }
-    answer(client, header, now, datagram, ids, out)
 }
 
 // The bytes of an event's data in the datagram that it came from; none of any other event, and none without one.
@@ -71,13 +89,13 @@ pub fn data_of(event: Option<Event>, datagram: &[u8]) -> &[u8]
     }
 }
 
-// An answer that changes nothing.
-fn told(client: Client, event: Option<Event>) -> Answer
-    ensures { result ≡ saying client event }
+// One event or none.
+fn count(event: Option<Event>) -> usize
+    ensures { result ≡ length (option_to_list event) }
 {
     match event {
-        Some(event) => Answer::telling(client, event),
-        None => Answer::quiet(client),
+        Some(_) => 1,
+        None => 0,
     }
 }
 

@@ -6,7 +6,7 @@ use Rattle.turn_state.specs.State.{begin}
 use Rattle.turn_state.specs.Source
 use Rattle.turn_state.specs.View.{view}
 use Rattle.turn_state.proofs.Answering.{late_meets}
-use Rattle.turn_handle.proofs.Datagrams.{headed, channel_said, unread, indication_said, passed_on}
+use Rattle.turn_handle.proofs.Datagrams.{headed, channel_told, unread, indication_told, passed_on}
 use Rattle.turn_handle.proofs.handle.Goals as goal
 
 pub returns-then-now-gt9007199254740991 : goal.returns-then-now-gt9007199254740991
@@ -19,15 +19,15 @@ pub returns-in-Some : goal.returns-in-Some
 returns-in-Some c =
     let a = c.args in
     let buf = a.datagram.now in
-    rw (c.told.ensures, c.channel_data.ensures)
-    (channel_said a.client a.now buf a.ids.now a.out.now c.if-now-gt9007199254740991.false c.in-Some.«data» (sym c.decode_channel_data.ensures ∙ c.in-Some.is))
+    channel_told a.client a.now buf a.ids.now a.out.now c.if-now-gt9007199254740991.false c.in-Some.«data» c.channel_data-event.result c.count.result (sym c.decode_channel_data.ensures ∙ c.in-Some.is)
+    c.channel_data-event.ensures c.count.ensures
 
-pub returns-in_default-decode : goal.returns-in_default-decode
-returns-in_default-decode c =
+pub returns-in-None : goal.returns-in-None
+returns-in-None c =
     let a = c.args in
     let buf = a.datagram.now in
     let message = sym c.decode_channel_data.ensures ∙ c.in_default.is in
-    rw c.quiet.ensures (unread a.client a.now buf a.ids.now a.out.now c.if-now-gt9007199254740991.false message (sym c.decode.ensures ∙ c.in_default-decode.is))
+    rw c.quiet.ensures (unread a.client a.now buf a.ids.now a.out.now c.if-now-gt9007199254740991.false message (sym c.decode.ensures ∙ c.in-None.is))
 
 pub returns-then-header-eq-DATA_INDICATION : goal.returns-then-header-eq-DATA_INDICATION
 returns-then-header-eq-DATA_INDICATION c =
@@ -36,11 +36,11 @@ returns-then-header-eq-DATA_INDICATION c =
     let message = sym c.decode_channel_data.ensures ∙ c.in_default.is in
     let header = c.in-Some-decode.header in
     let head = headed buf header (sym c.decode.ensures ∙ c.in-Some-decode.is) in
-    rw (c.told-then-header-eq-DATA_INDICATION.ensures, c.indicated.ensures)
-    (indication_said a.client a.now buf a.ids.now a.out.now c.if-now-gt9007199254740991.false message header head c.if-header-eq-DATA_INDICATION.true)
+    indication_told a.client a.now buf a.ids.now a.out.now c.if-now-gt9007199254740991.false message header head c.indicated-event.result c.count-then-header-eq-DATA_INDICATION.result
+    c.if-header-eq-DATA_INDICATION.true c.indicated-event.ensures c.count-then-header-eq-DATA_INDICATION.ensures
 
-pub returns : goal.returns
-returns c =
+pub returns-else-header-eq-DATA_INDICATION : goal.returns-else-header-eq-DATA_INDICATION
+returns-else-header-eq-DATA_INDICATION c =
     let a = c.args in
     let buf = a.datagram.now in
     let message = sym c.decode_channel_data.ensures ∙ c.in_default.is in
