@@ -31,7 +31,7 @@ same_ids (Poll now ids room) = refl
 same_ids TransportFailed = refl
 same_ids (Close ids room) = refl
 
-never : {A : Type 0} → ◌≡◌ {A = ℕ} 0 1 → A
+pub never : {A : Type 0} → ◌≡◌ {A = ℕ} 0 1 → A
 never e = let f : ⊥ = omega arith in absurd f
 
 -- the Rust's client and the code's mean the same, and `by_num` names the peers of its channels
