@@ -3,7 +3,7 @@
 #![tactic(auto)]
 
 use std::convert::AsSlice;
-use std::{env, io};
+use std::io;
 
 // The units of the kernel of that name, each with the last one's first byte at the start of its
 // message of 65,536 bytes.
@@ -31,12 +31,12 @@ fn hmac100(m: &[u8]) -> [u8; 20] {
 }
 
 // The kernel of that name; nothing for any other name, as `none`.
-fn run_named(rt: &impl Print, name: &str, units: u64) -> io::Result<()> {
+fn run_named(rt: &impl Print, name: &[u8], units: u64) -> io::Result<()> {
     match name {
-        "sha1" => run(rt, b"sha1", units, sha1_digest::digest),
-        "md5" => run(rt, b"md5", units, md5_digest::digest),
-        "crc32" => run(rt, b"crc32", units, |m| crc32::digest(m).to_be_bytes()),
-        "hmac100" => run(rt, b"hmac100", units, hmac100),
+        b"sha1" => run(rt, b"sha1", units, sha1_digest::digest),
+        b"md5" => run(rt, b"md5", units, md5_digest::digest),
+        b"crc32" => run(rt, b"crc32", units, |m| crc32::digest(m).to_be_bytes()),
+        b"hmac100" => run(rt, b"hmac100", units, hmac100),
         _ => Ok(()),
     }
 }
@@ -44,21 +44,17 @@ fn run_named(rt: &impl Print, name: &str, units: u64) -> io::Result<()> {
 // The kernel that the first argument names, or each of them for `all`, with as many units as the
 // second says.
 fn main(rt: HostRuntime) -> io::Result<()> {
-    let mut words = env::args(&rt)?.skip(1);
-    let name = words.next();
-    let units = words.next();
-    let units = match &units {
-        Some(text) => text.as_str().parse().unwrap_or(0),
-        None => 0,
-    };
-    match &name {
-        Some(name) if name.as_str() == "all" => {
-            for name in ["sha1", "md5", "crc32", "hmac100"] {
-                run_named(&rt, name, units)?;
-            }
-            Ok(())
+    let mut first = [0; 4096];
+    let mut second = [0; 4096];
+    let name = vectors::argument(&rt, 1, &mut first);
+    let units = vectors::number(vectors::argument(&rt, 2, &mut second));
+    match name {
+        b"all" => {
+            run_named(&rt, b"sha1", units)?;
+            run_named(&rt, b"md5", units)?;
+            run_named(&rt, b"crc32", units)?;
+            run_named(&rt, b"hmac100", units)
         }
-        Some(name) => run_named(&rt, name.as_str(), units),
-        None => Ok(()),
+        _ => run_named(&rt, name, units),
     }
 }

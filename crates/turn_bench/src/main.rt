@@ -2,7 +2,7 @@
 // 32 peers bound, with 1,200 bytes of data, and prints how many events, packets or deadlines there were.
 #![tactic(auto)]
 
-use std::{array, env, io};
+use std::{array, io};
 use stun_address::{Address, Ip};
 use stun_frame::names::ATTR_LIFETIME;
 use turn_state::{Channel, Channels, Client, Host, Permission, Permissions, Place};
@@ -131,28 +131,25 @@ fn verified(units: u64) -> Option<u64> {
 }
 
 // The kernel of that name; nothing for any other name, as `none`.
-fn run(name: &str, units: u64) -> Option<u64> {
+fn run(name: &[u8], units: u64) -> Option<u64> {
     let mut data = [0u8; 1200];
     vectors::fill(&mut data, 3, 7);
     match name {
-        "channel-in" => channel_in(&data, units),
-        "data-in" => data_in(&data, units),
-        "channel-out" => Some(sent(&data, units)),
-        "verify" => verified(units),
-        "deadline" => Some(deadlines(units)),
-        "poll-idle" => Some(polls(units)),
+        b"channel-in" => channel_in(&data, units),
+        b"data-in" => data_in(&data, units),
+        b"channel-out" => Some(sent(&data, units)),
+        b"verify" => verified(units),
+        b"deadline" => Some(deadlines(units)),
+        b"poll-idle" => Some(polls(units)),
         _ => None,
     }
 }
 
 fn main(rt: HostRuntime) -> io::Result<()> {
-    let mut words = env::args(&rt)?.skip(1);
-    let name = words.next();
-    let units = words.next();
-    let seen = match (&name, &units) {
-        (Some(name), Some(units)) => run(name.as_str(), units.as_str().parse().unwrap_or(0)),
-        _ => None,
-    };
-    let seen = seen.unwrap_or(0) % 0x1_0000_0000;
+    let mut first = [0; 4096];
+    let mut second = [0; 4096];
+    let name = vectors::argument(&rt, 1, &mut first);
+    let units = vectors::number(vectors::argument(&rt, 2, &mut second));
+    let seen = run(name, units).unwrap_or(0) % 0x1_0000_0000;
     println!(rt; "seen {seen:08x}")
 }

@@ -5,6 +5,7 @@
 ghost use Rattle.std.specs.Prelude.{◌≡◌, length};
 
 use std::convert::AsSlice;
+use std::env::Env;
 use std::{fmt, io};
 
 // The byte of index i is (start + step * i) mod 256.
@@ -14,6 +15,20 @@ pub fn fill(out: &mut [u8], start: u8, step: u8) {
         *place = b;
         b = b.wrapping_add(step);
     }
+}
+
+// The i-th argument, as bytes at the front of the room; none where it is not given, or longer.
+pub fn argument<'a>(rt: &impl Env, i: usize, room: &'a mut [u8]) -> &'a [u8] {
+    let n = rt.arg(i, room).unwrap_or(0);
+    &room[..n]
+}
+
+// The number that the digits among the bytes write, the first fifteen of it.
+pub fn number(text: &[u8]) -> u64 {
+    text.iter().fold(0, |n: u64, c| match c {
+        b'0'..=b'9' if n < 100_000_000_000_000 => n * 10 + u64::from(*c - b'0'),
+        _ => n,
+    })
 }
 
 // The message whose first n bytes the programs digest.
