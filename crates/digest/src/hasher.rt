@@ -47,7 +47,7 @@ pub struct Hasher<C, W> {
     pub words: W,
     pub count: u64,
     pub tail: [u8; 64],
-    of: PhantomData<C>,
+    pub of: PhantomData<C>,
 }
 
 impl<W: Copy, C: Compression<W>> Hasher<C, W> {
