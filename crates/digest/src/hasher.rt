@@ -1,5 +1,5 @@
 // A digest of a message that comes in parts, for any digest of the family.
-ghost use Rattle.std.specs.Prelude.{◌≡◌, ℕ, List, length};
+ghost use Rattle.std.specs.Prelude.{◌≡◌, ℕ, List};
 ghost use Rattle.digest.specs.Bytes.{ordered};
 ghost use Rattle.digest.specs.Digest.{Digest, digest, result as «result_of»};
 ghost use Rattle.digest.specs.Running.{fresh, fed, finished};
@@ -29,8 +29,7 @@ pub trait Compression<W> {
         ensures { words result ≡ parameters.start };
 
     // After one more block.
-    fn step(h: W, block: &[u8]) -> W
-        requires { length block.now ≡ 64 }
+    fn step(h: W, block: &[u8; 64]) -> W
         ensures { words result ≡ parameters.step (words h) block.now };
 
     // The words as bytes.

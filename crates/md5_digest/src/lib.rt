@@ -36,7 +36,7 @@ impl Compression<[u32; 4]> for Rfc1321 {
         [0x67452301, 0xefcdab89, 0x98badcfe, 0x10325476]
     }
 
-    fn step(h: [u32; 4], block: &[u8]) -> [u32; 4] {
+    fn step(h: [u32; 4], block: &[u8; 64]) -> [u32; 4] {
         step(h, block)
     }
 

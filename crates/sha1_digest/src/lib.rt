@@ -36,7 +36,7 @@ impl Compression<[u32; 5]> for Rfc3174 {
         [0x67452301, 0xefcdab89, 0x98badcfe, 0x10325476, 0xc3d2e1f0]
     }
 
-    fn step(h: [u32; 5], block: &[u8]) -> [u32; 5] {
+    fn step(h: [u32; 5], block: &[u8; 64]) -> [u32; 5] {
         step(h, block)
     }
 
