@@ -5,7 +5,7 @@
 
 mod hasher;
 
-ghost use Rattle.std.specs.Prelude.{◌≡◌, [], ◌∷◌, ◌++◌, ◌*◌, ◌%◌, ◌^◌, min, take};
+ghost use Rattle.std.specs.Prelude.{◌≡◌, [], ◌∷◌, ◌++◌, ◌*◌, ◌/◌, ◌%◌, ◌^◌, min, take};
 ghost use mathlib.Core.List.{flat_map};
 ghost use Rattle.digest.specs.Word.{rotl};
 ghost use Rattle.digest.specs.Bytes.{bytes, ordered, low_first};
@@ -75,9 +75,10 @@ pub fn last_block(block: [u8; 64], count: u64, big: bool) -> [u8; 64]
     out
 }
 
-// Words as bytes, each with its high byte first where `big`; LEN is four bytes for each of the N.
+// Words as bytes, each with its high byte first where `big`: as many of them as LEN bytes have room
+// for, each whole, then zeros.
 pub fn spelled<const N: usize, const LEN: usize>(words: [u32; N], big: bool) -> [u8; LEN]
-    ensures { LEN ≡ 4 * N → result ≡ flat_map (bytes (ordered big) 4) words.entry }
+    ensures { result ≡ filled LEN (flat_map (bytes (ordered big) 4) (take (LEN / 4) words.entry)) }
 {
     let words = &words[..];
     let mut out = [0; LEN];

@@ -40,7 +40,6 @@ impl Compression<[u32; 4]> for Rfc1321 {
         step(h, block)
     }
 
-    #[tactic(auto, unfolding(digest::specs::Digest::result))]
     fn result(h: [u32; 4]) -> [u8; 16] {
         digest::spelled(h, false)
     }

@@ -40,7 +40,6 @@ impl Compression<[u32; 5]> for Rfc3174 {
         step(h, block)
     }
 
-    #[tactic(auto, unfolding(digest::specs::Digest::result))]
     fn result(h: [u32; 5]) -> [u8; 20] {
         digest::spelled(h, true)
     }
