@@ -20,7 +20,7 @@ pub fed_end : (s : List ℕ) (c i : ℕ) → length s ≤ i → fed c (drop i s)
 unfolding fed
 fed_end s c i h = rw (drop_of_length-le s h)
 
-fed_append : (c : ℕ) (a b : List ℕ) → fed c (a ++ b) ≡ fed (fed c a) b
+pub fed_append : (c : ℕ) (a b : List ℕ) → fed c (a ++ b) ≡ fed (fed c a) b
 unfolding fed
 fed_append c [] b = refl
 fed_append c (x ∷ a) b = fed_append (with_bits 8 c x) a b
