@@ -11,10 +11,10 @@ use lib.Seq.{drop-cons, drop-drop}
 use Rattle.std.specs.Simd.{first_chunks}
 use Rattle.crc32.specs.Register.{with_bits, fed}
 
--- the byte at i of s is before the one at i + 1
-pub fed_next : (s : List ℕ) (c i : ℕ) → i < length s → fed (with_bits 8 c (get_or s i 0)) (drop (i + 1) s) ≡ fed c (drop i s)
+-- the register r after the byte at i of s, which is before the one at j
+pub fed_next : (s : List ℕ) (c r i j : ℕ) → i < length s → j ≡ i + 1 → r ≡ with_bits 8 c (get_or s i 0) → fed r (drop j s) ≡ fed c (drop i s)
 unfolding fed
-fed_next s c i h = rw (add-one, drop-cons s i 0 h)
+fed_next s c r i j h e f = rw (f, e, add-one, drop-cons s i 0)
 
 pub fed_end : (s : List ℕ) (c i : ℕ) → length s ≤ i → fed c (drop i s) ≡ c
 unfolding fed
