@@ -11,8 +11,14 @@ use borrow.Author.Tests.{ltb-true, ltb-false, ne_eqb}
 use Rattle.std.specs.Prelude.{Option, Some, None}
 use Rattle.listing.specs.declared.Call.{Call}
 use Rattle.listing.specs.declared.Call.TheVariants.{Start, Data, Send, Poll, Lost, Close}
+use Rattle.listing.specs.declared.held.Held.{Held}
 use Rattle.listing.specs.Listing.{digit, decimal, blank, newline, name, due, call_text}
+use Rattle.listing.specs.Held.{Holds}
 use Rattle.listing.proofs.Numbers.{decimal_one, decimal_more}
+
+-- two lines that hold one text are one
+pub same_line : {text : List ℕ} {a b : Held} → Holds text a → Holds text b → a ≡ b
+same_line h k = h.whole ∙ sym k.whole
 
 -- an induction over the digits of a number, from the first on
 by_digits : (P : ℕ → Type 0) → ((n : ℕ) → n < 10 → P n) → ((n : ℕ) → 9 < n → P (n / 10) → P n) → (k n : ℕ) → n < k → P n

@@ -1,9 +1,12 @@
-// The lines of a replay listing as document 01 has them: what each prints, its newline too.
+// The lines of a replay listing as document 01 has them: what each prints, its newline too, and the same as bytes (`held`).
 #![tactic(auto)]
+
+mod held;
 
 ghost use Rattle.std.specs.Prelude.{Some};
 ghost use Rattle.listing.specs.Listing.{name, due, text};
 
+pub use held::Held;
 use std::fmt;
 
 #[derive(Clone, Copy)]
