@@ -75,6 +75,10 @@ later NeedsPassword = NeedsTransport
 later NeedsTransport = Opened
 later Opened = Opened
 
+-- the stage with so many fields of the opening behind it: username, password, transport, or all three
+abbrev pub stage_of : ℕ → Stage
+stage_of behind = cond (eqb behind 0) NeedsUsername (cond (eqb behind 1) NeedsPassword (cond (eqb behind 2) NeedsTransport Opened))
+
 -- a tape: its pieces in order, each with the bytes that it carries; then its end between two fields, or the place of the tag
 -- of a field that is cut or of any other shape
 pub data Tape : Type 0 where

@@ -3,7 +3,7 @@
 #![tactic(auto)]
 
 ghost use Rattle.std.specs.Prelude.{◌≡◌, ◌+◌, ◌≤◌, ◌<◌, MatchOption, length, take, drop};
-ghost use Rattle.tape.specs.Tape.{later as «later_of», only, starts, transport, send, call, meaning};
+ghost use Rattle.tape.specs.Tape.{later as «later_of», stage_of, only, starts, transport, send, call, meaning};
 ghost use Rattle.tape.specs.Window.{cut, next_of};
 
 use stun_address::{Address, Ip};
@@ -59,6 +59,20 @@ impl Stage {
             Stage::NeedsUsername => Stage::NeedsPassword,
             Stage::NeedsPassword => Stage::NeedsTransport,
             Stage::NeedsTransport | Stage::Opened => Stage::Opened,
+        }
+    }
+}
+
+// By how many fields of the opening are behind: username, password, transport. Any number from three on is the calls' stage.
+impl From<u8> for Stage {
+    ghost from_gives = { λ behind stage. stage ≡ stage_of behind };
+
+    fn from(behind: u8) -> Stage {
+        match behind {
+            0 => Stage::NeedsUsername,
+            1 => Stage::NeedsPassword,
+            2 => Stage::NeedsTransport,
+            _ => Stage::Opened,
         }
     }
 }
