@@ -174,14 +174,9 @@ pub fn play(rt: &(impl Input + Print), detail: Detail) {
     let _ = run(rt, detail, &mut window, 0, false);
 }
 
-// Plays a whole tape, the first `len` bytes of the room.
-pub fn play_whole(
-    rt: &(impl Input + Print),
-    detail: Detail,
-    room: &mut [u8],
-    len: usize,
-) -> io::Result<()> {
-    run(rt, detail, room, len, true)
+// Plays a whole tape, the first `len` bytes of the room, likewise.
+pub fn play_whole(rt: &(impl Input + Print), detail: Detail, room: &mut [u8], len: usize) {
+    let _ = run(rt, detail, room, len, true);
 }
 
 // Plays the tape of which the window holds the first `have` bytes; unless that is all, standard input brings more. Nothing is
