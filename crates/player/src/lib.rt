@@ -38,12 +38,10 @@ impl Carried {
     }
 
     // As many as fit.
-    fn first_of(bytes: &[u8]) -> Carried {
-        let mut carried = Carried::none();
+    fn set(&mut self, bytes: &[u8]) {
         let len = bytes.len().min(4096);
-        carried.bytes[..len].copy_from_slice(&bytes[..len]);
-        carried.len = len;
-        carried
+        self.bytes[..len].copy_from_slice(&bytes[..len]);
+        self.len = len;
     }
 
     fn as_slice(&self) -> &[u8] {
@@ -80,37 +78,14 @@ impl Session {
     // Plays a piece at a stage, whose bytes are the body.
     fn play(&mut self, rt: &impl Print, stage: Stage, piece: Piece, body: &[u8]) -> io::Result<()> {
         self.stage = Some(stage.later());
-        let client = self.client;
-        let ids = self.ids.as_slice();
-        let mut out = [0u8; 65536];
-        let (call, made) = match piece {
-            Piece::Username => {
-                self.username = Carried::first_of(body);
-                return Ok(());
-            }
-            Piece::Password => {
-                self.password = Carried::first_of(body);
-                return Ok(());
-            }
+        match piece {
+            Piece::Username => self.username.set(body),
+            Piece::Password => self.password.set(body),
+            Piece::Ids => self.ids.set(body),
             Piece::Transport(reliable) => return self.open(rt, reliable),
-            Piece::Ids => {
-                self.ids = Carried::first_of(body);
-                return Ok(());
-            }
-            Piece::Start(now) => (Call::Start, turn_poll::start(client, now, ids, &mut out)),
-            Piece::Datagram(now) => (
-                Call::Data,
-                turn_handle::handle(client, now, body, ids, &mut out),
-            ),
-            Piece::Send(now, peer) => (
-                Call::Send,
-                turn_send::send(client, now, peer, body, ids, &mut out),
-            ),
-            Piece::Poll(now) => (Call::Poll, turn_poll::poll(client, now, ids, &mut out)),
-            Piece::Lost => (Call::Lost, Ok(turn_open::lost(client))),
-            Piece::Close => (Call::Close, turn_close::close(client, ids, &mut out)),
-        };
-        self.called(rt, call, made, &out)
+            _ => return self.call(rt, piece, body),
+        }
+        Ok(())
     }
 
     fn open(&mut self, rt: &impl Print, reliable: bool) -> io::Result<()> {
@@ -128,6 +103,30 @@ impl Session {
         Ok(())
     }
 
+    // Makes the call that a piece asks for. The room for its packets is here, so that the other pieces do not pay for it.
+    fn call(&mut self, rt: &impl Print, piece: Piece, body: &[u8]) -> io::Result<()> {
+        let client = self.client;
+        let ids = self.ids.as_slice();
+        let mut out = [0u8; 65536];
+        let (call, made) = match piece {
+            Piece::Start(now) => (Call::Start, turn_poll::start(client, now, ids, &mut out)),
+            Piece::Datagram(now) => (
+                Call::Data,
+                turn_handle::handle(client, now, body, ids, &mut out),
+            ),
+            Piece::Send(now, peer) => (
+                Call::Send,
+                turn_send::send(client, now, peer, body, ids, &mut out),
+            ),
+            Piece::Poll(now) => (Call::Poll, turn_poll::poll(client, now, ids, &mut out)),
+            Piece::Lost => (Call::Lost, Ok(turn_open::lost(client))),
+            Piece::Close => (Call::Close, turn_close::close(client, ids, &mut out)),
+            // These ask for no call.
+            Piece::Username | Piece::Password | Piece::Transport(_) | Piece::Ids => return Ok(()),
+        };
+        self.called(rt, call, made, &out)
+    }
+
     // Lists a call, and what is seen of it. A refused call has told and written nothing.
     fn called(
         &mut self,
@@ -141,7 +140,7 @@ impl Session {
             Err(refusal) => (u32::from(refusal), Answer::quiet(self.client)),
         };
         self.client = answer.client;
-        self.ids = Carried::none();
+        self.ids.len = 0;
         self.number = self.number.wrapping_add(1);
         let line = Line::Called {
             number: self.number,
