@@ -124,6 +124,15 @@ module _ (l : List ℕ) where
       go true = refl
       go false = refl
 
+  pub lossy_len : IfOk (lossy_of l) (λ (t : Text). t.len ≤ 763)
+  unfolding lossy_of
+  lossy_len = go (leb (length (replaced l)) 763) refl
+    where
+      go : (t : Bool) → leb (length (replaced l)) 763 ≡ t
+          → IfOk (cond {A = Result Text TooLong} t (Ok (text_of (replaced l))) (Err (record {}))) (λ (u : Text). u.len ≤ 763)
+      go true e = leb-true (length (replaced l)) 763 e
+      go false e = tt
+
   pub lossy_text : length (replaced l) ≤ 763 → lossy_of l ≡ Ok (text_of (replaced l))
   unfolding lossy_of
   lossy_text h = ap (λ (t : Bool). cond {A = Result Text TooLong} t (Ok (text_of (replaced l))) (Err (record {}))) (le-leb (length (replaced l)) 763 h)

@@ -1,14 +1,14 @@
--- One step by its tests (`step_end`, `step_some`). On a readable message the steps from 20 are its attributes, in order
--- (`steps_attributes`), and no place reached has a value that passes the end (`never_past`).
+-- One step by its tests (`step_outside`, `step_end`, `step_past`, `step_some`). On a readable message the steps from 20 are
+-- its attributes, in order (`steps_attributes`), and no place reached has a value that passes the end (`never_past`).
 use mathlib.Core.Path.{◌≡◌, refl, sym, ap, ◌∙◌}
-use Prim.Native.Nat.{ℕ, zero, suc, ◌+◌, ◌≤◌, ◌<◌}
+use Prim.Native.Nat.{ℕ, zero, suc, ◌+◌, ◌*◌, ◌≤◌, ◌<◌}
 use native.Mathlib.Nat.{lt_of_not-le}
 use native.Mathlib.Decide.{dec_le}
 use native.Mathlib.Omega.{arith}
 use mathlib.Core.List.{List, [], ◌∷◌}
-use mathlib.Core.Bool.{Bool, true, false, ◌&&◌, cond}
+use mathlib.Core.Bool.{Bool, true, false, ◌&&◌, cond, and-false}
 use borrow.Author.Tests.{le-leb, lt-leb, leb-true}
-use lib.ListN.{length}
+use lib.ListN.{length, get_or}
 use lib.Dec.{leb}
 use Rattle.stun_frame.specs.Source.{field_at, is_stun}
 use Rattle.stun_walk.specs.Source.{attributes_from, attributes, inside, readable, padded, Attribute as «Found»}
@@ -17,12 +17,26 @@ use Rattle.stun_walker.specs.declared.Step.{Step}
 use Rattle.stun_walker.specs.declared.Step.TheVariants.{Attribute, Past, Done}
 
 module _ (buf : List ℕ) (p : ℕ) where
+  -- the length, from its two bytes
+  pub len_at : get_or buf (p + 2) 0 * 256 + get_or buf (p + 3) 0 ≡ field_at buf (p + 2)
+  len_at = let e : p + 3 ≡ p + 2 + 1 = omega arith in rw e
+
+  -- the header passes the buffer's end
+  pub step_outside : length buf < p + 4 → Done ≡ step_of buf p
+  unfolding step_of
+  step_outside h = rw (lt-leb (p + 4) (length buf) h, and-false)
+
   -- the header passes the length field's end
   pub step_end : 20 + field_at buf 2 < p + 4 → Done ≡ step_of buf p
   unfolding step_of
   step_end h = rw (lt-leb (p + 4) (20 + field_at buf 2) h)
 
   module _ (here : p + 4 ≤ 20 + field_at buf 2) (fits : p + 4 ≤ length buf) where
+    pub step_past : length buf < p + 4 + field_at buf (p + 2) → Past ≡ step_of buf p
+    unfolding step_of
+    step_past h =
+        rw (le-leb (p + 4) (20 + field_at buf 2) here, le-leb (p + 4) (length buf) fits, lt-leb (p + 4 + field_at buf (p + 2)) (length buf) h)
+
     -- what was read, and the padding
     pub step_some : (typ len : ℕ) → typ ≡ field_at buf p → len ≡ field_at buf (p + 2) → p + 4 + len ≤ length buf
         → Attribute typ (p + 4) len (p + 4 + padded len) ≡ step_of buf p

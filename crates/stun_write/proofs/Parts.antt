@@ -10,10 +10,10 @@ use lib.Seq.{take_at, drop_at, drop-append-add}
 use Rattle.digest.specs.Bytes.{bytes, big}
 use Rattle.digest.specs.Hmac.{hmac}
 use Rattle.sha1_digest.specs.Rfc3174.{sha1}
-use Rattle.stun_frame.specs.Source.{padding}
+use Rattle.stun_frame.specs.Source.{to_be, padding}
 use Rattle.stun_check.specs.Source.{covered}
-use Rattle.stun_write.specs.Source.{push_attr, Attribute, attributes, Key, unsigned, signed, header, set_length, with_integrity, with_fingerprint, encoded, integrity, fingerprint, sealed_body}
-use Rattle.stun_write.proofs.Lengths.{length-header, length-hmac}
+use Rattle.stun_write.specs.Source.{push_attr, attr_size, Attribute, attributes, Key, unsigned, signed, header, set_length, with_integrity, with_fingerprint, encoded, integrity, fingerprint, sealed_body}
+use Rattle.stun_write.proofs.Lengths.{length-push_attr, length-header, length-hmac}
 
 -- attributes one after the other
 pub attributes_append : (a b : List Attribute) → attributes (a ++ b) ≡ attributes a ++ attributes b
@@ -21,10 +21,17 @@ attributes_append [] b = refl
 attributes_append (x ∷ a) b =
     ap (λ (l : List ℕ). push_attr x.typ x.value ++ l) (attributes_append a b) ∙ sym (append_assoc (push_attr x.typ x.value) (attributes a) (attributes b))
 
--- the value of an attribute at the front of the rest, as a reader takes it
+-- an attribute at the front of the rest, as a reader takes it: its type and length, its value, what follows it
+pub push_head : (t : ℕ) (v rest : List ℕ) → take 4 (push_attr t v ++ rest) ≡ to_be t ++ to_be (length v)
+unfolding push_attr
+push_head t v rest = refl
+
 pub push_value : (t : ℕ) (v rest : List ℕ) (n : ℕ) → length v ≡ n → take n (drop 4 (push_attr t v ++ rest)) ≡ v
 unfolding push_attr
 push_value t v rest n e = ap (take n) (append_assoc v (replicate (padding (length v)) 0) rest) ∙ take_at v _ n e
+
+pub push_rest : (t : ℕ) (v rest : List ℕ) → drop (attr_size (length v)) (push_attr t v ++ rest) ≡ rest
+push_rest t v rest = drop_at (push_attr t v) rest (attr_size (length v)) (length-push_attr t v)
 
 module _ (typ : ℕ) (id : List ℕ) (ided : length id ≡ 12) where
   behind_header : (n : ℕ) (b : List ℕ) → length (header typ n id ++ b) - 20 ≡ length b

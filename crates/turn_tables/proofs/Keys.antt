@@ -84,6 +84,9 @@ module _ {R : Type 0} (is : R → Bool) where
     pub at_lt : i < length l
     at_lt = stands_lt (stands l i found)
 
+    pub at_is : (d : R) → is (get_or l i d) ≡ true
+    at_is d = stands_is d (stands l i found)
+
     pub at_get : (d : R) → get is l ≡ Some (get_or l i d)
     at_get d = stands_get d (stands l i found)
 
