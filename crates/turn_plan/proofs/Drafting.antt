@@ -43,7 +43,7 @@ use Rattle.turn_state.specs.declared.Kind.{Kind}
 use Rattle.turn_plan.specs.declared.Draft.{Draft}
 use Rattle.turn_state.specs.declared.Client.{Client}
 use Rattle.turn_plan.specs.Plan.{Plan, entry, due_tids, due_ips, due_peers, plan_perms, plan_chans, planned, planned_from, asking, plan_refresh, plan_perm, plan_chan, failed, sent_again, settle_due, with_txns, with_perms, with_chans, plan_due, plan_bind, plan_binds, waiting_peers}
-use Rattle.turn_plan.specs.Draft.{inserted, insert_at, id_bytes, plan_in, messages_in, TidyDraft, Drafts, From, Begins, Plans, set_requests, set_permissions, set_channels, set_sends}
+use Rattle.turn_plan.specs.Draft.{inserted, insert_at, id_bytes, plan_in, messages_in, TidyDraft, Drafts, From, Begins, Plans, Binds, set_requests, set_permissions, set_channels, set_sends}
 
 -- nothing changes
 pub same_draft : (sent asked : ℕ) (d : Draft) (p : Plan) → plan_in d ≡ p → Drafts (Unit {0}) sent asked d p d
@@ -417,3 +417,16 @@ module _ (client : Client) where
   pub asked_first : (kind : Kind) (d r : Draft) → Begins client d → Drafts (Unit {0}) 0 1 d (asking kind (plan_in d)) r → From client (asking kind (entry (view client))) 0 1 r
   asked_first kind d r b f =
       after_entry d r (asking kind (entry (view client))) (asking kind (plan_in d)) 0 1 (ap (asking kind) (sym b.means)) b f
+
+  -- with other requests and permissions than the client's: these are tidy where those that are given are
+  pub binds_given : (ip : Ip) (requests : Requests) (permissions : Permissions) (b r : Draft) → Begins client b → b.channels ≡ client.channels
+      → Drafts (Unit {0}) 0 32 (set_requests requests (set_permissions permissions b)) (plan_binds ip (plan_in (set_requests requests (set_permissions permissions b)))) r
+      → Binds client requests permissions ip r
+  binds_given ip requests permissions b r begins channels f =
+      record {
+        means = f.means ∙ ap (λ (p : Plan). plan_binds ip (with_perms (perms_in permissions) (with_txns (txns_in requests) p))) begins.means;
+        tidy = λ x p c. f.tidy tt (record { requests = x; permissions = p; channels = rw channels c });
+        few_sends = omega (arith, f.few_sends, begins.few_sends);
+        few_timeouts = omega (arith, f.few_timeouts, begins.few_timeouts);
+        few_asks = omega (arith, f.few_asks, begins.few_asks);
+      }

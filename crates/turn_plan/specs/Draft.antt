@@ -93,7 +93,11 @@ abbrev pub Plans : Client → ℕ → Draft → Type 0
 Plans client now r =
     From client (cond (leb now 9007199254740991) (planned now (view client)) (entry (view client))) 64 65 r
 
--- what it binds after a permission's success, from tables of their own
+-- the client with these tables
+abbrev pub with_tables : Requests → Permissions → Client → Client
+with_tables requests permissions client = record client { requests = requests; permissions = permissions }
+
+-- what the code binds after a permission's success, from the tables in which its request is gone and it is granted; the client's own are not asked
 abbrev pub Binds : Client → Requests → Permissions → Ip → Draft → Type 0
 Binds client requests permissions ip r =
-    (b : Draft) × Begins client b × Drafts (Unit {0}) 0 32 (set_requests requests (set_permissions permissions b)) (plan_binds ip (plan_in (set_requests requests (set_permissions permissions b)))) r
+    From (with_tables requests permissions client) (plan_binds ip (entry (view (with_tables requests permissions client)))) 0 32 r

@@ -97,6 +97,7 @@ impl Draft {
 
     // What a permission's success comes to, from the tables in which its request is gone and it is granted: every unbound channel of
     // its IP is to be bound.
+    #[tactic(auto, using(crate::proofs::Drafting::binds_given))]
     pub fn binding(client: &Client, requests: Requests, permissions: Permissions, ip: Ip) -> Draft
         ensures { Binds client.now requests permissions ip result }
     {
@@ -110,7 +111,8 @@ impl Draft {
 
     // What a call begins with: the client's tables, and nothing to do.
     fn of(client: &Client) -> Draft
-        ensures { Begins client.now result }
+        ensures begins { Begins client.now result }
+        ensures channels { result.channels ≡ client.now.channels }
     {
         Draft {
             requests: client.requests,

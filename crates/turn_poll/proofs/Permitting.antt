@@ -29,7 +29,7 @@ use Rattle.turn_tables.proofs.Laws.{txns_length, remove_txn, tidy_removed_reques
 use Rattle.turn_packet.proofs.Rooms.{Rooms}
 use Rattle.turn_plan.specs.declared.Draft.{Draft}
 use Rattle.turn_plan.specs.Plan.{Plan, entry, with_txns, with_perms, asking, plan_bind, plan_binds, waiting_peers, granting, plan_success}
-use Rattle.turn_plan.specs.Draft.{plan_in, set_requests, set_permissions}
+use Rattle.turn_plan.specs.Draft.{plan_in, with_tables}
 use Rattle.turn_plan.specs.Follows.{Follows, FollowsFull, perm_full}
 use Rattle.turn_plan.proofs.Steps.{success_follows}
 use Rattle.turn_state.specs.declared.Refusal.TheVariants.{Full}
@@ -116,13 +116,12 @@ module _ (client : Client) (now : ℕ) (lent id buf : List ℕ) (ip : Ip) (rows 
       let met : full success.report.added ≡ true = ap (λ (r : Run). full r.report.added) f.run ∙ f.met ∙ rw e in
       rw (le-ltb 9007199254740991 now in_time, texts, bodies, met)
 
-  -- the draft of the code: that of the call, with the tables in which the request is gone and the permission granted
-  pub success_plan : (start d : Draft) (t : Requests) (p : Permissions) → plan_in start ≡ entry c → txns_in t ≡ remove (under_id id) c.txns → perms_in p ≡ granting now ip c.perms
-      → plan_in d ≡ plan_binds ip (plan_in (set_permissions p (set_requests t start))) → perm_full c.perms ip ≡ false → Follows c now lent (plan_in d) success
-  success_plan start d t p begins et ep means free =
+  -- the draft of the code, from the tables in which the request is gone and the permission granted
+  pub success_plan : (d : Draft) (t : Requests) (p : Permissions) → plan_in d ≡ plan_binds ip (entry (view (with_tables t p client)))
+      → txns_in t ≡ remove (under_id id) c.txns → perms_in p ≡ granting now ip c.perms → perm_full c.perms ip ≡ false → Follows c now lent (plan_in d) success
+  success_plan d t p means et ep free =
       let is : plan_in d ≡ plan_success now id ip c =
-      means ∙ ap (λ (l : List Txn). plan_binds ip (with_perms (perms_in p) (with_txns l (plan_in start)))) et
-      ∙ ap (λ (l : List Perm). plan_binds ip (with_perms l (with_txns (remove (under_id id) c.txns) (plan_in start)))) ep
-      ∙ ap (λ (q : Plan). plan_binds ip (with_perms (granting now ip c.perms) (with_txns (remove (under_id id) c.txns) q))) begins in
+      means ∙ ap (λ (l : List Txn). plan_binds ip (with_perms (perms_in p) (with_txns l (entry c)))) et
+      ∙ ap (λ (l : List Perm). plan_binds ip (with_perms l (with_txns (remove (under_id id) c.txns) (entry c)))) ep in
       let g = subst (λ (b : Bool). FollowsFull b c now lent (plan_success now id ip c) success) free follows in
       subst (λ (q : Plan). Follows c now lent q success) (sym is) g

@@ -34,12 +34,10 @@ pub returns : goal.returns
 returns c =
     λ buf.
     let a = c.args in
-    let b = c.binding-draft.ensures.0 in
-    let d = c.binding-draft.ensures.1 in
-    let e = c.binding-draft.ensures.2 in
+    let d = c.binding-draft.ensures in
     let w = c.without.ensures in
     let g = c.in_ok-granted.ensures in
     let rows : length a.client.requests.rows ≡ 64 = search rules in
     c.conclude.ensures (permitted a.now buf a.id a.ip (begin (view a.client) a.ids.now))
-    (λ n. e.tidy tt (record { requests = w.1 n.requests; permissions = g.tidy n.permissions; channels = (d.tidy n.requests n.permissions n.channels).channels }))
-    (success_plan a.client a.now a.ids.now a.id buf a.ip rows b c.binding-draft.result c.without.result c.in_ok-granted.granted d.means w.0 g.granted e.means g.free)
+    (λ n. d.tidy (w.1 n.requests) (g.tidy n.permissions) n.channels)
+    (success_plan a.client a.now a.ids.now a.id buf a.ip rows c.binding-draft.result c.without.result c.in_ok-granted.granted d.means w.0 g.granted g.free)
