@@ -1,5 +1,5 @@
 -- The one pass over a message. `Left` is what a turn keeps: with attributes enough from p on, the definition finds there what
--- it finds from the start. A turn stops (`left_none`), meets a value that passes the end (`past_here`) or passes over one
+-- it finds from the start. A turn stops (`left_none`), meets a value that passes the end (`left_past`) or passes over one
 -- (`left_next`).
 use mathlib.Core.Path.{◌≡◌, refl, sym, ap, ◌∙◌}
 use Prim.Native.Nat.{ℕ, zero, suc, ◌+◌, ◌≤◌, ◌<◌}
@@ -87,6 +87,13 @@ module _ (buf : List ℕ) (t p : ℕ) (hit : Option Value) (left : Left buf t p 
     some : (n : ℕ) → attributes_from (suc n) buf p ≡ this ∷ attributes_from n buf next
     unfolding attributes_from
     some n = rw (le-leb (p + 4) (20 + field_at buf 2) here)
+
+    pub left_past : length buf < p + 4 + field_at buf (p + 2) → inside buf (attributes buf) ≡ false
+    left_past h = sym left.within ∙ past left.fuel left.enough
+      where
+        past : (n : ℕ) → length buf ≤ p + n → inside buf (attributes_from n buf p) ≡ false
+        past zero e = absurd (omega arith)
+        past (suc n) e = ap (inside buf) (some n) ∙ rw (lt-leb (p + 4 + field_at buf (p + 2)) (length buf) h)
 
     left_on : p + 4 + field_at buf (p + 2) ≤ length buf → Left buf t next (option_or hit (cond (eqb (field_at buf p) t) (Some value) None))
     left_on h = go left.fuel left.enough left.within left.finds

@@ -7,3 +7,4 @@ pub mod Neat
 pub mod Laws
 pub mod Listing
 pub mod Dues
+pub mod Requests
