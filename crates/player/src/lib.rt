@@ -93,8 +93,7 @@ impl Session {
             Ok(client) => self.client = client,
             Err(refusal) => {
                 self.stage = None;
-                let line = Line::Refused(u32::from(refusal));
-                print!(rt; "{line}")?;
+                print(rt, Line::Refused(u32::from(refusal)))?;
                 if self.detail != Detail::Lines {
                     self.list(rt)?;
                 }
@@ -151,7 +150,7 @@ impl Session {
             bytes: calls::bare(&answer),
             deadline: turn_deadline::next_deadline(self.client),
         };
-        print!(rt; "{line}")?;
+        print(rt, line)?;
         if self.detail != Detail::Lines {
             calls::below(rt, &answer, out)?;
         }
@@ -165,6 +164,11 @@ impl Session {
         let lines = state::Lines(&self.client);
         print!(rt; "{lines}")
     }
+}
+
+// Writes a line by its bytes, which `listing` proves: no formatting that could end before the line does stands between.
+fn print(rt: &impl Print, line: Line) -> io::Result<()> {
+    rt.write_all(line.held().as_slice())
 }
 
 // Plays the tape on standard input as it comes. Where standard output cannot be written, no more is played.
@@ -187,16 +191,14 @@ fn run(
     have: usize,
     all: bool,
 ) -> io::Result<()> {
-    let first = Line::First;
-    print!(rt; "{first}")?;
+    print(rt, Line::First)?;
     let mut session = Session::new(detail);
     let bad = fields(rt, &mut session, window, have, all)?;
     if detail == Detail::Calls && 0 < session.number {
         session.list(rt)?;
     }
     if let Some(place) = bad {
-        let line = Line::Bad(place);
-        print!(rt; "{line}")?;
+        print(rt, Line::Bad(place))?;
     }
     Ok(())
 }
