@@ -1,7 +1,40 @@
-// What is listed below a call's line: its packets and its events.
+// A call of the client from a piece of a tape, and what is listed below its line: its packets and its events.
 use super::shown::{Hex, OrDash, Place};
+use listing::Call;
 use std::{fmt, io};
-use turn_state::{Answer, Event, Reason};
+use tape::Piece;
+use turn_state::{Answer, Client, Event, Reason, Refusal};
+
+// What a call comes to. No other piece comes here than those of calls. Each call's answer is the function's own, with no room
+// beside it: a function zeroes its locals when it is entered, and an answer holds a client.
+pub fn made(
+    client: Client,
+    piece: Piece,
+    body: &[u8],
+    ids: &[u8],
+    out: &mut [u8],
+) -> Result<Answer, Refusal> {
+    match piece {
+        Piece::Start(now) => turn_poll::start(client, now, ids, out),
+        Piece::Datagram(now) => turn_handle::handle(client, now, body, ids, out),
+        Piece::Send(now, peer) => turn_send::send(client, now, peer, body, ids, out),
+        Piece::Poll(now) => turn_poll::poll(client, now, ids, out),
+        Piece::Close => turn_close::close(client, ids, out),
+        _ => Ok(turn_open::lost(client)),
+    }
+}
+
+// Which call it is.
+pub fn call_of(piece: Piece) -> Call {
+    match piece {
+        Piece::Start(_) => Call::Start,
+        Piece::Datagram(_) => Call::Data,
+        Piece::Send(_, _) => Call::Send,
+        Piece::Poll(_) => Call::Poll,
+        Piece::Close => Call::Close,
+        _ => Call::Lost,
+    }
+}
 
 // What the caller is told.
 #[derive(Clone, Copy)]

@@ -104,55 +104,42 @@ impl Session {
 
     // Makes the call that a piece asks for. The room for its packets is here, so that the other pieces do not pay for it.
     fn call(&mut self, rt: &impl Print, piece: Piece, body: &[u8]) -> io::Result<()> {
-        let client = self.client;
-        let ids = self.ids.as_slice();
         let mut out = [0u8; 65536];
-        let (call, made) = match piece {
-            Piece::Start(now) => (Call::Start, turn_poll::start(client, now, ids, &mut out)),
-            Piece::Datagram(now) => (
-                Call::Data,
-                turn_handle::handle(client, now, body, ids, &mut out),
-            ),
-            Piece::Send(now, peer) => (
-                Call::Send,
-                turn_send::send(client, now, peer, body, ids, &mut out),
-            ),
-            Piece::Poll(now) => (Call::Poll, turn_poll::poll(client, now, ids, &mut out)),
-            Piece::Lost => (Call::Lost, Ok(turn_open::lost(client))),
-            Piece::Close => (Call::Close, turn_close::close(client, ids, &mut out)),
-            // These ask for no call.
-            Piece::Username | Piece::Password | Piece::Transport(_) | Piece::Ids => return Ok(()),
-        };
-        self.called(rt, call, made, &out)
+        let made = calls::made(self.client, piece, body, self.ids.as_slice(), &mut out);
+        self.called(rt, calls::call_of(piece), &made, &out)
     }
 
-    // Lists a call, and what is seen of it. A refused call has told and written nothing.
+    // Lists a call, and what is seen of it. A refused call has told and written nothing, and leaves the client.
     fn called(
         &mut self,
         rt: &impl Print,
         call: Call,
-        made: Result<Answer, Refusal>,
+        made: &Result<Answer, Refusal>,
         out: &[u8],
     ) -> io::Result<()> {
-        let (number, answer) = match made {
-            Ok(answer) => (0, answer),
-            Err(refusal) => (u32::from(refusal), Answer::quiet(self.client)),
+        let (refusal, events, packets, bytes) = match made {
+            Ok(answer) => {
+                self.client = answer.client;
+                (0, answer.events, answer.packets, calls::bare(answer))
+            }
+            Err(refusal) => (u32::from(*refusal), 0, 0, 0),
         };
-        self.client = answer.client;
         self.ids.len = 0;
         self.number = self.number.wrapping_add(1);
         let line = Line::Called {
             number: self.number,
             call,
-            refusal: number,
-            events: answer.events,
-            packets: answer.packets,
-            bytes: calls::bare(&answer),
+            refusal,
+            events,
+            packets,
+            bytes,
             deadline: turn_deadline::next_deadline(self.client),
         };
         print(rt, line)?;
         if self.detail != Detail::Lines {
-            calls::below(rt, &answer, out)?;
+            if let Ok(answer) = made {
+                calls::below(rt, answer, out)?;
+            }
         }
         if self.detail == Detail::Clients {
             self.list(rt)?;
@@ -166,7 +153,7 @@ impl Session {
     }
 }
 
-// Writes a line by its bytes, which `listing` proves: no formatting that could end before the line does stands between.
+// Writes a line by the bytes that `listing` proves whole. Of `print!` a contract says nothing where the formatting ends early.
 fn print(rt: &impl Print, line: Line) -> io::Result<()> {
     rt.write_all(line.held().as_slice())
 }
