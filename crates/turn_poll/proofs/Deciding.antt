@@ -8,7 +8,7 @@ use lib.ListN.{length, take, drop, replicate, length-take, length-drop, length-a
 use lib.Seq.{take_at, drop-append-add, drop-drop}
 use lib.Dec.{eqb, leb}
 use borrow.Author.Tests.{le-leb}
-use Rattle.std.specs.Prelude.{Option, None, Some, Ok, Err, unwrap_or, is_some}
+use Rattle.std.specs.Prelude.{Option, None, Some, Result, Ok, Err, unwrap_or, is_some, is_err}
 use Rattle.stun_frame.specs.declared.Unwritten.TheVariants.{NoRoom}
 use Rattle.stun_frame.specs.Source.{room_after, Written}
 use Rattle.turn_state.specs.declared.Client.{Client}
@@ -36,7 +36,7 @@ use Rattle.turn_plan.specs.Plan.{Plan, entry, asking, planned}
 use Rattle.turn_plan.specs.Draft.{plan_in, kinds_in, TidyDraft}
 use Rattle.turn_plan.specs.Follows.{Follows, drawn, met_full, requested, planned_packets, planned_client, first_next}
 use Rattle.turn_plan.proofs.Steps.{length-drawn, poll_follows, start_follows}
-use Rattle.turn_poll.specs.Taking.{TookTable}
+use Rattle.turn_poll.specs.Taking.{TookTable, TookAll}
 use Rattle.turn_poll.proofs.Coming.{length_kinds}
 use Rattle.turn_poll.proofs.Packets.{again_packets, ask_packets, never_long, drawn_ids}
 
@@ -115,16 +115,15 @@ module _ (client : Client) (d : Draft) (now : ℕ) (lent out : List ℕ) (s : Ru
       (ap (λ (r : Run). full r.report.added) f.run ∙ f.met) (ap (λ (r : Run). r.report.used) f.run ∙ ids_are)
       (λ h. ap (λ (r : Run). length (framed r.out)) f.run ∙ size_is h ∙ sym size)
 
-  -- where the draft meets a full table
-  pub meets_five : met ≡ true → number g c s ≡ 5
-  unfolding verdict_of
-  meets_five e =
-      decided (sends_size client.credentials (take d.sends.len d.sends.rows) + asks_size client.credentials (take d.asks.len d.asks.rows)) refl ∙ rw e
+  -- does the draft meet a full table? As the code has found
+  pub meets : (r : Result Requests Refusal) → TookAll d.requests (take d.asks.len d.asks.rows) lent (first_next c now) r → met ≡ is_err r
+  meets (Ok t) took = took.free
+  meets (Err refusal) took = took.met
 
-  -- and where it does not
-  pub decided_as : met ≡ false → (n v : ℕ) → n ≡ sends_size client.credentials (take d.sends.len d.sends.rows) + asks_size client.credentials (take d.asks.len d.asks.rows)
-      → v ≡ verdict_of false (pending c) lent d.asks.len n (length out) → number g c s ≡ v
-  decided_as free n v size e = decided n size ∙ rw free (sym e)
+  -- and the number by that
+  pub decided_by : (flag : Bool) → met ≡ flag → (n v : ℕ) → n ≡ sends_size client.credentials (take d.sends.len d.sends.rows) + asks_size client.credentials (take d.asks.len d.asks.rows)
+      → v ≡ verdict_of flag (pending c) lent d.asks.len n (length out) → number g c s ≡ v
+  decided_by flag is n v size e = decided n size ∙ rw is (sym e)
 
   -- the client after it
   abbrev after : Requests → ℕ → Bool → Client

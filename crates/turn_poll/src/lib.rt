@@ -114,10 +114,14 @@ fn conclude(
 {
     let next = first_next(now, client.reliable);
     let asks = &draft.asks.rows[..draft.asks.len];
-    let requests = take_all(draft.requests, asks, ids, next)?;
+    let taken = take_all(draft.requests, asks, ids, next);
     let first = sends_size(client.credentials, draft.sends);
     let size = first + asks_size(client.credentials, draft.asks);
-    verdict(client.requests, false, draft.asks.len, ids, size, out.len())?;
+    let full = taken.is_err();
+    verdict(client.requests, full, draft.asks.len, ids, size, out.len())?;
+    let Ok(requests) = taken else {
+        return Err(Refusal::Full);
+    };
     let _ = write_sends(out, 0, client.credentials, draft.sends);
     let _ = write_asks(out, first, client.credentials, draft.asks, ids);
     Ok(Answer {
