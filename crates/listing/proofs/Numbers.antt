@@ -7,7 +7,7 @@ use native.Mathlib.Nat.{not-suc-le-zero, le_of_suc-le-suc}
 use native.Mathlib.Omega.{arith}
 use lib.ListN.{length, drop, set, replicate, length-set}
 use lib.Dec.{ltb}
-use borrow.Author.Tests.{ltb-true, ltb-false, lt-ltb, le-ltb}
+use borrow.Author.Tests.{ltb-false, lt-ltb, le-ltb}
 use Rattle.std.proofs.Common.{rules}
 use Rattle.std.specs.Fmt.{decimal as printed}
 use Rattle.std.proofs.lemmas.Fmt.{decimal_from_appends, length-decimal-le_succ}
@@ -50,20 +50,6 @@ tens (suc k) = 10 * tens k
 pub tens_twenty : (n : ℕ) → n < 18446744073709551616 → n < tens 20
 unfolding tens
 tens_twenty n h = omega arith
-
--- a number below so many tens has no more digits
-pub decimal_digits : (k n : ℕ) → n < tens (suc k) → digits_in (suc k) n ≡ decimal n
-unfolding tens
-decimal_digits zero n h =
-    ap (λ (t : Bool). cond t (digit n ∷ []) (digits_in zero (n / 10) ++ (digit (n % 10) ∷ []))) (lt-ltb n 10 (omega arith))
-    ∙ sym (decimal_one n (omega arith))
-decimal_digits (suc k) n h = go (ltb n 10) refl (decimal_digits k (n / 10) (omega arith))
-  where
-    go : (t : Bool) → ltb n 10 ≡ t → digits_in (suc k) (n / 10) ≡ decimal (n / 10)
-        → cond t (digit n ∷ []) (digits_in (suc k) (n / 10) ++ (digit (n % 10) ∷ [])) ≡ decimal n
-    go true e rest = sym (decimal_one n (ltb-true n 10 e))
-    go false e rest =
-        ap (λ (l : List ℕ). l ++ (digit (n % 10) ∷ [])) rest ∙ sym (decimal_more n (ltb-false n 10 e))
 
 -- a number of more than one digit has two places or more, and a tenth of it needs one place less
 pub tens_two : (n k : ℕ) → n < tens k → 9 < n → 2 ≤ k

@@ -4,8 +4,8 @@ use Rattle.turn_tables.proofs.Neat.{tidy_row}
 use mathlib.Core.Path.{◌≡◌, refl, ap, sym, ◌∙◌}
 use mathlib.Core.Bool.{Bool, true}
 use mathlib.Core.List.{List}
-use Prim.Native.Nat.{ℕ, ◌+◌, ◌<◌}
-use borrow.Author.Tests.{lt-ltb, eq-eqb, ne_eqb}
+use Prim.Native.Nat.{ℕ, ◌<◌}
+use borrow.Author.Tests.{lt-ltb, ne_eqb}
 use lib.ListN.{length, get_or}
 use Rattle.stun_address.specs.declared.Ip.{Ip}
 use Rattle.stun_address.specs.declared.Address.{Address}
@@ -148,9 +148,6 @@ module _ (client : Client) (peer : Address) (num now : ℕ) where
 
 pub bound_other : (ch : Channel) (now num : ℕ) → (ch.number ≡ num → ⊥) → chan_in ch ≡ bound_at now num (chan_in ch)
 bound_other ch now num n = rw (ne_eqb ch.number num n)
-
-pub bound_same : (ch : Channel) (now num : ℕ) → ch.number ≡ num → chan_in (record { peer = ch.peer; number = ch.number; bound = true; at = now + 540000 }) ≡ bound_at now num (chan_in ch)
-bound_same ch now num e = let is = eq-eqb ch.number num e in rw is
 
 -- failures
 module _ (client : Client) (why : Reason) where

@@ -17,7 +17,7 @@ use Rattle.turn_state.specs.View.{ip_in, address_in, held, txn_in, perm_in, chan
 use Rattle.turn_tables.specs.declared.Id.{Id}
 use Rattle.turn_tables.specs.Lists.{id_of, due_request, due_permission, due_channel, waiting_channel, due_ids, due_hosts, due_places, waiting_places}
 use Rattle.turn_tables.specs.Rows.{filled}
-use Rattle.turn_tables.proofs.Listing.{listed, listed_le, filled_length, filled_front}
+use Rattle.turn_tables.proofs.Listing.{listed_le, filled_front}
 
 -- rows chosen by a test of the view, and what they mean
 module _ {R W X Y : Type 0} (f : R → W) (test : W → Bool) (own : R → Bool) (h : W → Y) (g : R → X) (k : X → Y) (agree : (r : R) → own r ≡ test (f r))
@@ -69,25 +69,13 @@ module _ (t : Requests) (now : ℕ) (full : length t.rows ≡ 64) where
   pub due_ids_len : (due_ids t now).len ≤ min t.len 64
   due_ids_len = omega (arith, listed_le (due_request now) (λ r. id_of r.id) t.rows t.len)
 
-  pub due_ids_rows : length (due_ids t now).rows ≡ 64
-  due_ids_rows = let h = due_ids_len in filled_length 64 (id_of no_id) (listed (due_request now) (λ r. id_of r.id) t.rows t.len) (omega arith)
-
 module _ (t : Permissions) (now : ℕ) (full : length t.rows ≡ 32) where
   pub due_hosts_len : (due_hosts t now).len ≤ min t.len 32
   due_hosts_len = omega (arith, listed_le (due_permission now) (λ r. r.host) t.rows t.len)
-
-  pub due_hosts_rows : length (due_hosts t now).rows ≡ 32
-  due_hosts_rows = let h = due_hosts_len in filled_length 32 nowhere.host (listed (due_permission now) (λ r. r.host) t.rows t.len) (omega arith)
 
 module _ (t : Channels) (full : length t.rows ≡ 32) where
   pub due_places_len : (now : ℕ) → (due_places t now).len ≤ min t.len 32
   due_places_len now = omega (arith, listed_le (due_channel now) (λ r. r.peer) t.rows t.len)
 
-  pub due_places_rows : (now : ℕ) → length (due_places t now).rows ≡ 32
-  due_places_rows now = let h = due_places_len now in filled_length 32 nowhere (listed (due_channel now) (λ r. r.peer) t.rows t.len) (omega arith)
-
   pub waiting_places_len : (ip : Ip) → (waiting_places t ip).len ≤ min t.len 32
   waiting_places_len ip = omega (arith, listed_le (waiting_channel ip) (λ r. r.peer) t.rows t.len)
-
-  pub waiting_places_rows : (ip : Ip) → length (waiting_places t ip).rows ≡ 32
-  waiting_places_rows ip = let h = waiting_places_len ip in filled_length 32 nowhere (listed (waiting_channel ip) (λ r. r.peer) t.rows t.len) (omega arith)

@@ -1,13 +1,12 @@
--- The laws of the three tables: what they show after an operation (`_txns`, `_perms`, `_chans`), that they keep their rows (`_rows`), and
--- that they stay tidy (`tidy_`). `full` is what an array's type says of its rows.
+-- The laws of the three tables: what they show after an operation (`_txns`, `_perms`, `_chans`), that a removal keeps the rows of the
+-- requests (`removed_request_rows`), and that they stay tidy (`tidy_`). `full` is what an array's type says of its rows.
 use Rattle.std.specs.Prelude.{Some, None}
 use mathlib.Core.Path.{◌≡◌, ◌∙◌}
 use mathlib.Core.Bool.{Bool}
-use mathlib.Core.List.{[], ◌∷◌, ◌++◌}
-use Prim.Native.Nat.{ℕ, suc, ◌<◌, min}
+use Prim.Native.Nat.{ℕ, ◌<◌, min}
 use native.Mathlib.Omega.{arith}
 use borrow.Author.Tests.{lt-ltb}
-use lib.ListN.{length, take, drop, get_or, set, length-set}
+use lib.ListN.{length, get_or}
 use Rattle.turn_state.specs.declared.Request.{Request}
 use Rattle.turn_state.specs.declared.Requests.{Requests}
 use Rattle.turn_state.specs.declared.Permission.{Permission}
@@ -19,21 +18,12 @@ use Rattle.turn_state.specs.State.{Txn, Perm, Chan}
 use Rattle.turn_state.specs.View.{txn_in, perm_in, chan_in, txns_in, perms_in, chans_in, no_request, no_permission, no_channel, TidyRequest, TidyPermission, TidyChannel, TidyRequests, TidyPermissions, TidyChannels}
 use Rattle.turn_tables.specs.Rows.{position}
 use Rattle.turn_tables.specs.Tables.{pushed_request, put_request, removed_request, pushed_permission, put_permission, removed_permission, pushed_channel, put_channel, removed_channel}
-use Rattle.turn_tables.proofs.Views.{either_way, closed_length, shown_length, shown_pushed, shown_put, shown_removed, found_row, shown_get, shown_added, shown_replaced, shown_taken}
+use Rattle.turn_tables.proofs.Views.{either_way, closed_length, shown_length, found_row, shown_get, shown_added, shown_replaced, shown_taken}
 use Rattle.turn_tables.proofs.Neat.{tidy_pushed, tidy_put, tidy_removed}
 
 module _ (t : Requests) (full : length t.rows ≡ 64) where
   pub txns_length : length (txns_in t) ≡ min t.len 64
   txns_length = shown_length txn_in t.rows t.len 64 full
-
-  pub pushed_txns : (r : Request) → t.len < 64 → txns_in (pushed_request t r) ≡ txns_in t ++ (txn_in r ∷ [])
-  pushed_txns r h = rw (lt-ltb t.len 64 h) (shown_pushed txn_in t.rows t.len 64 full r h)
-
-  pub put_txns : (i : ℕ) (r : Request) → i < min t.len 64 → txns_in (put_request t i r) ≡ set (txns_in t) i (txn_in r)
-  put_txns i r h = rw (lt-ltb i (min t.len 64) h) (shown_put txn_in t.rows t.len 64 full i r h)
-
-  pub removed_txns : (i : ℕ) → i < min t.len 64 → txns_in (removed_request t i) ≡ take i (txns_in t) ++ drop (suc i) (txns_in t)
-  removed_txns i h = rw (lt-ltb i (min t.len 64) h) (shown_removed txn_in t.rows t.len 64 full i no_request h)
 
   -- by any test of a record
   module _ (is : Txn → Bool) where
@@ -51,12 +41,6 @@ module _ (t : Requests) (full : length t.rows ≡ 64) where
 
     pub remove_txn : (i : ℕ) → position is (txns_in t) ≡ Some i → txns_in (removed_request t i) ≡ remove is (txns_in t)
     remove_txn i found = rw (lt-ltb i (min t.len 64) (found_txn i found)) (shown_taken txn_in t.rows t.len 64 full is i no_request found)
-
-  pub pushed_request_rows : (r : Request) → length (pushed_request t r).rows ≡ 64
-  pushed_request_rows r = either_way (λ (u : Requests). length u.rows ≡ 64) t.len 64 _ _ (λ h. length-set t.rows t.len r ∙ full) (λ h. full)
-
-  pub put_request_rows : (i : ℕ) (r : Request) → length (put_request t i r).rows ≡ 64
-  put_request_rows i r = either_way (λ (u : Requests). length u.rows ≡ 64) i (min t.len 64) _ _ (λ h. length-set t.rows i r ∙ full) (λ h. full)
 
   pub removed_request_rows : (i : ℕ) → length (removed_request t i).rows ≡ 64
   removed_request_rows i = either_way (λ (u : Requests). length u.rows ≡ 64) i (min t.len 64) _ _ (λ h. closed_length t.rows (min t.len 64) i no_request (omega arith) h ∙ full) (λ h. full)
@@ -78,15 +62,6 @@ module _ (t : Permissions) (full : length t.rows ≡ 32) where
   pub perms_length : length (perms_in t) ≡ min t.len 32
   perms_length = shown_length perm_in t.rows t.len 32 full
 
-  pub pushed_perms : (r : Permission) → t.len < 32 → perms_in (pushed_permission t r) ≡ perms_in t ++ (perm_in r ∷ [])
-  pushed_perms r h = rw (lt-ltb t.len 32 h) (shown_pushed perm_in t.rows t.len 32 full r h)
-
-  pub put_perms : (i : ℕ) (r : Permission) → i < min t.len 32 → perms_in (put_permission t i r) ≡ set (perms_in t) i (perm_in r)
-  put_perms i r h = rw (lt-ltb i (min t.len 32) h) (shown_put perm_in t.rows t.len 32 full i r h)
-
-  pub removed_perms : (i : ℕ) → i < min t.len 32 → perms_in (removed_permission t i) ≡ take i (perms_in t) ++ drop (suc i) (perms_in t)
-  removed_perms i h = rw (lt-ltb i (min t.len 32) h) (shown_removed perm_in t.rows t.len 32 full i no_permission h)
-
   -- by any test of a record
   module _ (is : Perm → Bool) where
     pub found_perm : (i : ℕ) → position is (perms_in t) ≡ Some i → i < min t.len 32
@@ -103,15 +78,6 @@ module _ (t : Permissions) (full : length t.rows ≡ 32) where
 
     pub remove_perm : (i : ℕ) → position is (perms_in t) ≡ Some i → perms_in (removed_permission t i) ≡ remove is (perms_in t)
     remove_perm i found = rw (lt-ltb i (min t.len 32) (found_perm i found)) (shown_taken perm_in t.rows t.len 32 full is i no_permission found)
-
-  pub pushed_permission_rows : (r : Permission) → length (pushed_permission t r).rows ≡ 32
-  pushed_permission_rows r = either_way (λ (u : Permissions). length u.rows ≡ 32) t.len 32 _ _ (λ h. length-set t.rows t.len r ∙ full) (λ h. full)
-
-  pub put_permission_rows : (i : ℕ) (r : Permission) → length (put_permission t i r).rows ≡ 32
-  put_permission_rows i r = either_way (λ (u : Permissions). length u.rows ≡ 32) i (min t.len 32) _ _ (λ h. length-set t.rows i r ∙ full) (λ h. full)
-
-  pub removed_permission_rows : (i : ℕ) → length (removed_permission t i).rows ≡ 32
-  removed_permission_rows i = either_way (λ (u : Permissions). length u.rows ≡ 32) i (min t.len 32) _ _ (λ h. closed_length t.rows (min t.len 32) i no_permission (omega arith) h ∙ full) (λ h. full)
 
 module _ (t : Permissions) (tidy : TidyPermissions t) where
   pub tidy_pushed_permission : (r : Permission) → TidyPermission r → TidyPermissions (pushed_permission t r)
@@ -130,15 +96,6 @@ module _ (t : Channels) (full : length t.rows ≡ 32) where
   pub chans_length : length (chans_in t) ≡ min t.len 32
   chans_length = shown_length chan_in t.rows t.len 32 full
 
-  pub pushed_chans : (r : Channel) → t.len < 32 → chans_in (pushed_channel t r) ≡ chans_in t ++ (chan_in r ∷ [])
-  pushed_chans r h = rw (lt-ltb t.len 32 h) (shown_pushed chan_in t.rows t.len 32 full r h)
-
-  pub put_chans : (i : ℕ) (r : Channel) → i < min t.len 32 → chans_in (put_channel t i r) ≡ set (chans_in t) i (chan_in r)
-  put_chans i r h = rw (lt-ltb i (min t.len 32) h) (shown_put chan_in t.rows t.len 32 full i r h)
-
-  pub removed_chans : (i : ℕ) → i < min t.len 32 → chans_in (removed_channel t i) ≡ take i (chans_in t) ++ drop (suc i) (chans_in t)
-  removed_chans i h = rw (lt-ltb i (min t.len 32) h) (shown_removed chan_in t.rows t.len 32 full i no_channel h)
-
   -- by any test of a record
   module _ (is : Chan → Bool) where
     pub found_chan : (i : ℕ) → position is (chans_in t) ≡ Some i → i < min t.len 32
@@ -155,15 +112,6 @@ module _ (t : Channels) (full : length t.rows ≡ 32) where
 
     pub remove_chan : (i : ℕ) → position is (chans_in t) ≡ Some i → chans_in (removed_channel t i) ≡ remove is (chans_in t)
     remove_chan i found = rw (lt-ltb i (min t.len 32) (found_chan i found)) (shown_taken chan_in t.rows t.len 32 full is i no_channel found)
-
-  pub pushed_channel_rows : (r : Channel) → length (pushed_channel t r).rows ≡ 32
-  pushed_channel_rows r = either_way (λ (u : Channels). length u.rows ≡ 32) t.len 32 _ _ (λ h. length-set t.rows t.len r ∙ full) (λ h. full)
-
-  pub put_channel_rows : (i : ℕ) (r : Channel) → length (put_channel t i r).rows ≡ 32
-  put_channel_rows i r = either_way (λ (u : Channels). length u.rows ≡ 32) i (min t.len 32) _ _ (λ h. length-set t.rows i r ∙ full) (λ h. full)
-
-  pub removed_channel_rows : (i : ℕ) → length (removed_channel t i).rows ≡ 32
-  removed_channel_rows i = either_way (λ (u : Channels). length u.rows ≡ 32) i (min t.len 32) _ _ (λ h. closed_length t.rows (min t.len 32) i no_channel (omega arith) h ∙ full) (λ h. full)
 
 module _ (t : Channels) (tidy : TidyChannels t) where
   pub tidy_pushed_channel : (r : Channel) → TidyChannel r → TidyChannels (pushed_channel t r)

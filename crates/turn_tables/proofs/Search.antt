@@ -1,13 +1,12 @@
 -- A search for the first row that has a key: what `position` answers of the rows in use is the place among the records that they mean.
--- And a search row by row: among the first i rows there is none (`Unseen`), until one is accepted (`seen`) or they end (`nowhere`).
+-- And where the row at i is accepted, and none of the first i rows (`Unseen`), that is the place (`seen`).
 use Rattle.std.proofs.Common.{◌≡◌, refl, sym, ap, ◌∙◌, Bool, true, false, cond, Option, Some, None, List, [], ◌∷◌, map, ℕ, ◌+◌, min, length, take, ltb, eqb, ◌&&◌, arith}
 use Rattle.std.proofs.lemmas.List.{take_min}
 use Rattle.std.specs.List.{position_or_len, position_from}
 use Rattle.std.specs.Cmp.Lexicographic.{pointwise}
 use Rattle.std.proofs.lemmas.Iterator.Adapters.{position_from-zero}
-use Prim.Native.Nat.{zero, suc, ◌≤◌, ◌<◌}
+use Prim.Native.Nat.{zero, suc, ◌<◌}
 use native.Mathlib.Nat.{not-suc-le-zero, le_of_suc-le-suc}
-use native.Mathlib.Numerals.{add-one}
 use lib.ListN.{get_or, length-take}
 use lib.Seq.{take-take, get_or-take}
 use Rattle.stun_check.specs.Source.{same}
@@ -27,14 +26,6 @@ module _ {R : Type 0} (is : R → Bool) where
       let hd = none_head (is x) (position is (take i xs)) none in
       let rest = found_at xs i d (le_of_suc-le-suc h) hd.1 is-it in rw (hd.0, rest)
 
-  passed_at : (l : List R) (i : ℕ) (d : R) → i < length l → position is (take i l) ≡ None → is (get_or l i d) ≡ false
-      → position is (take (suc i) l) ≡ None
-  passed_at [] i d h none is-not = absurd (not-suc-le-zero h)
-  passed_at (x ∷ xs) zero d h none is-not = rw is-not
-  passed_at (x ∷ xs) (suc i) d h none is-not =
-      let hd = none_head (is x) (position is (take i xs)) none in
-      let rest = passed_at xs i d (le_of_suc-le-suc h) hd.1 is-not in rw (hd.0, rest)
-
 -- through a view
 pub position_map : {R W : Type 0} (f : R → W) (is : W → Bool) (l : List R) → position is (map f l) ≡ position (λ r. is (f r)) l
 position_map f is [] = refl
@@ -53,14 +44,6 @@ module _ {R W : Type 0} (f : R → W) (is : W → Bool) (rows : List R) (len roo
   seen i d h none is-it =
       position_map f is (take len rows)
       ∙ found_at (λ r. is (f r)) (take len rows) i d (rw length-take (omega arith)) (rw (take-take i len rows (omega arith)) none) (rw (get_or-take len rows i d (omega arith)) is-it)
-
-  pub unseen : (i : ℕ) (d : R) → i < min len room → Unseen f is rows i → is (f (get_or rows i d)) ≡ false → Unseen f is rows (i + 1)
-  unseen i d h none is-not = rw add-one (passed_at (λ r. is (f r)) rows i d (omega arith) none is-not)
-
-  pub nowhere : (i : ℕ) → i ≤ min len room → min len room ≤ i → Unseen f is rows i → position is (map f (take len rows)) ≡ None
-  nowhere i h k none =
-      let e : min len room ≡ i = omega arith in
-      position_map f is (take len rows) ∙ ap (position (λ r. is (f r))) (sym (take-least rows len room full) ∙ ap (λ (n : ℕ). take n rows) e) ∙ none
 
 -- counted from a number on
 abbrev plus : ℕ → Option ℕ → Option ℕ

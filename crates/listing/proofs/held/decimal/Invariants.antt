@@ -1,3 +1,4 @@
+-- What is left of the number, and what stands already from `from` on, make its text (`Left`); what is left grows less.
 use Rattle.listing.proofs.Numbers.{Left}
 use Rattle.listing.proofs.held.decimal.Given as goal
 
