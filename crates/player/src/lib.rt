@@ -136,10 +136,10 @@ impl Session {
             deadline: turn_deadline::next_deadline(self.client),
         };
         print(rt, line)?;
-        if self.detail != Detail::Lines {
-            if let Ok(answer) = made {
-                calls::below(rt, answer, out)?;
-            }
+        if let Ok(answer) = made
+            && self.detail != Detail::Lines
+        {
+            calls::below(rt, answer, out)?;
         }
         if self.detail == Detail::Clients {
             self.list(rt)?;
