@@ -4,6 +4,8 @@
 mod calls;
 mod shown;
 mod state;
+#[cfg(test)]
+mod tests;
 
 ghost use Rattle.std.specs.Prelude.{◌≤◌, length};
 
@@ -164,8 +166,18 @@ pub fn play(rt: &(impl Input + Print), detail: Detail) {
     let _ = run(rt, detail, &mut window, 0, false);
 }
 
-// Plays a whole tape, the first `len` bytes of the room, likewise.
-pub fn play_whole(rt: &(impl Input + Print), detail: Detail, room: &mut [u8], len: usize) {
+// Plays a whole tape, the first `len` bytes of the room. The error is that of standard output; no more is played after it.
+pub fn play_whole(
+    rt: &(impl Input + Print),
+    detail: Detail,
+    room: &mut [u8],
+    len: usize,
+) -> io::Result<()> {
+    run(rt, detail, room, len, true)
+}
+
+// Plays a whole tape likewise, for who goes on in either case: it cannot fail, and does not tell whether it stopped early.
+pub fn play_whole_or_stop(rt: &(impl Input + Print), detail: Detail, room: &mut [u8], len: usize) {
     let _ = run(rt, detail, room, len, true);
 }
 

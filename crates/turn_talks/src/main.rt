@@ -21,7 +21,7 @@ fn next_tape(rt: &(impl Input + Print), number: u64, room: &mut [u8]) -> io::Res
         return Ok(false);
     }
     println!(rt; "tape {number}")?;
-    player::play_whole(rt, Detail::Calls, room, len);
+    player::play_whole_or_stop(rt, Detail::Calls, room, len);
     Ok(true)
 }
 
